@@ -1,0 +1,3 @@
+-- What the shapes of the code stand for in the rules.
+pub mod Answer
+pub mod Handed

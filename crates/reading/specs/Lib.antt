@@ -1,0 +1,4 @@
+-- What the reader answers.
+pub mod Number
+pub mod Walked
+pub mod Pieces

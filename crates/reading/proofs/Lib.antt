@@ -4,3 +4,5 @@ pub mod Follow
 pub mod Walks
 pub mod Lines
 pub mod Types
+pub mod Parts
+pub mod Flat

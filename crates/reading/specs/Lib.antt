@@ -2,3 +2,5 @@
 pub mod Number
 pub mod Walked
 pub mod Pieces
+pub mod Sections
+pub mod Placements

@@ -1,25 +1,30 @@
-// The reader of job texts and plan texts. One reading position walks the lent text from front to back, once.
-// The text entries of planner and checker call `read_job` and `read_plan`; nothing here knows of cutting.
-// They promise, on every text: refusal 1 with its place, refusal 2 with its item, or the job, and of a plan text its placements in the lent buffer.
+// The cursor core of the reader: numbers, lines and sections of a text. One reading position walks the lent text from front to back, once.
+// The crate `texts` puts job texts and plan texts together from it; nothing here knows of ranges or of cutting.
+// It promises that each walk goes as the grammar's reading does: on to the place behind what was asked for, or to the place where the text leaves the grammar.
 ghost use mathlib.Core.Path.{_≡_};
 ghost use mathlib.Core.Bool.{_&&_};
+ghost use mathlib.Core.Logic.{_≢_};
+ghost use mathlib.Core.List.{[], _∷_};
 ghost use Prim.Native.Nat.{_-_, _≤_, _<_};
-ghost use lib.ListN.{take};
-ghost use Rattle.rules.specs.Limits.{typesMost};
+ghost use lib.ListN.{length, take};
+ghost use Rattle.rules.specs.Limits.{typesMost, piecesMost};
 ghost use Rattle.rules.specs.Text.{aLine, someLines, section};
 ghost use Rattle.rules.proofs.Reading.{isDigit, room};
 ghost use Rattle.reading.specs.Number.{numberAt};
 ghost use Rattle.reading.specs.Walked.{Walked, Passed};
+ghost use Rattle.reading.specs.Sections.{sheetItems, countItems, someSheets, oneSheet, sheetsAndPieces, Part};
+ghost use Rattle.reading.specs.Placements.{numbersOfPlacements, noNumbers, PlacementsRead, PlacementsPart};
 ghost use Rattle.reading.specs.Pieces.{noTypes, noJob, PiecesRead};
 use shapes::DIGITS_MOST;
 use shapes::Job;
 use shapes::PIECES_MOST;
+use shapes::PLAN_NUMBERS;
 use shapes::PieceType;
 use shapes::TYPES_MOST;
 
-const SPACE: u8 = 32;
+pub const SPACE: u8 = 32;
 
-const LF: u8 = 10;
+pub const LF: u8 = 10;
 
 // Where the reading position has come: behind what was asked for, or to the place where the text leaves the grammar.
 pub enum Walk {
@@ -170,10 +175,10 @@ struct Sheet {
 }
 
 // The sheet and piece sections: how far the walk came, the sheet count, and the job, where the sheet count is 1.
-struct Sections {
-    walk: Walk,
-    sheets: u64,
-    job: Job,
+pub struct Sections {
+    pub walk: Walk,
+    pub sheets: u64,
+    pub job: Job,
 }
 
 // No types: what stands past the piece count.
@@ -239,5 +244,215 @@ fn piece_lines(text: &[u8], from: usize, n: usize) -> PieceLines
     PieceLines {
         walk: Walk::To(at),
         types,
+    }
+}
+
+// The piece section behind the sheet. More pieces than a job has room for are out of range, so that nobody needs their lines.
+fn pieces(text: &[u8], from: usize, sheet: Sheet) -> Sections
+    ensures { λ r. ⌜ Part (section 4) (sheetItems sheet) (now (text .entry)) from (r .walk) (r .sheets) (r .job) ⌝ }
+{
+    match number(text, from, LF) {
+        Numeral::IsNot(place) => stopped(place),
+        Numeral::Is(count, next) => {
+            if count <= TYPES_MOST as u64 {
+                return counted_pieces(text, next, sheet, count);
+            }
+            more_pieces(text, next, sheet, count)
+        }
+    }
+}
+
+fn stopped(place: usize) -> Sections
+    ensures { λ r. ⌜ (r .walk ≡ Walk.Stops place) × (r .sheets ≡ 0) × (r .job ≡ noJob) ⌝ }
+{
+    let job = no_job();
+    Sections {
+        walk: Walk::Stops(place),
+        sheets: 0,
+        job,
+    }
+}
+
+fn counted_pieces(text: &[u8], from: usize, sheet: Sheet, count: u64) -> Sections
+    requires { ⌜ count ≤ typesMost ⌝ }
+    ensures { λ r. ⌜ Part (someLines count 4) (countItems sheet count) (now (text .entry)) from (r .walk) (r .sheets) (r .job) ⌝ }
+{
+    let read = piece_lines(text, from, count as usize);
+    let walk = read.walk;
+    let types = read.types;
+    Sections {
+        walk,
+        sheets: 1,
+        job: Job {
+            length: sheet.length,
+            width: sheet.width,
+            kerf: sheet.kerf,
+            count,
+            types,
+        },
+    }
+}
+
+fn more_pieces(text: &[u8], from: usize, sheet: Sheet, count: u64) -> Sections
+    requires { ⌜ typesMost < count ⌝ }
+    ensures { λ r. ⌜ Part (someLines count 4) (countItems sheet count) (now (text .entry)) from (r .walk) (r .sheets) (r .job) ⌝ }
+{
+    let walk = skip_lines(text, from, count, 4);
+    let types = no_types();
+    Sections {
+        walk,
+        sheets: 1,
+        job: Job {
+            length: sheet.length,
+            width: sheet.width,
+            kerf: sheet.kerf,
+            count,
+            types,
+        },
+    }
+}
+
+fn one_sheet(text: &[u8], from: usize) -> Sections
+    ensures { λ r. ⌜ Part (oneSheet) (1 ∷ []) (now (text .entry)) from (r .walk) (r .sheets) (r .job) ⌝ }
+{
+    let l = line(text, from, 3);
+    let walk = l.walk;
+    match walk {
+        Walk::Stops(place) => stopped(place),
+        Walk::To(next) => pieces(
+            text,
+            next,
+            Sheet {
+                length: l.numbers[0],
+                width: l.numbers[1],
+                kerf: l.numbers[2],
+            },
+        ),
+    }
+}
+
+// Another sheet count than 1 is out of range, whatever the lines hold.
+fn other_sheets(text: &[u8], from: usize, sheets: u64) -> Sections
+    requires { ⌜ sheets ≢ 1 ⌝ }
+    ensures { λ r. ⌜ Part (someSheets sheets) (sheets ∷ []) (now (text .entry)) from (r .walk) (r .sheets) (r .job) ⌝ }
+{
+    let lines = skip_lines(text, from, sheets, 3);
+    match lines {
+        Walk::Stops(place) => stopped(place),
+        Walk::To(next) => {
+            let walk = skip_section(text, next, 4);
+            let job = no_job();
+            Sections { walk, sheets, job }
+        }
+    }
+}
+
+// The two sections that job texts and plan texts begin with.
+pub fn two_sections(text: &[u8]) -> Sections
+    ensures { λ r. ⌜ Part sheetsAndPieces [] (now (text .entry)) 0 (r .walk) (r .sheets) (r .job) ⌝ }
+{
+    match number(text, 0, LF) {
+        Numeral::IsNot(place) => stopped(place),
+        Numeral::Is(sheets, next) => {
+            if sheets == 1 {
+                return one_sheet(text, next);
+            }
+            other_sheets(text, next, sheets)
+        }
+    }
+}
+
+// Placement lines `type x y`, as flat numbers.
+fn placement_lines(text: &[u8], from: usize, n: usize, numbers: &mut [u64]) -> Walk
+    requires { ⌜ numbersOfPlacements n ≤ length (now numbers) ⌝ }
+    ensures { λ r. ⌜ PlacementsRead (now (text .entry)) from n (now (numbers .entry)) (now (numbers .exit)) r ⌝ }
+{
+    let mut at = from;
+    let mut i = 0;
+    let mut j = 0;
+    while i < n {
+        let l = line(text, at, 3);
+        let walk = l.walk;
+        match walk {
+            Walk::Stops(place) => {
+                return Walk::Stops(place);
+            }
+            Walk::To(next) => {
+                at = next;
+            }
+        }
+        numbers[j] = l.numbers[0];
+        numbers[j + 1] = l.numbers[1];
+        numbers[j + 2] = l.numbers[2];
+        j += 3;
+        i += 1;
+    }
+    Walk::To(at)
+}
+
+// The placement section: how far the walk came, the count, and the flat numbers, where the count is in range.
+pub struct Placements {
+    pub walk: Walk,
+    pub count: u64,
+    pub numbers: [u64; PLAN_NUMBERS],
+}
+
+fn no_placements(place: usize) -> Placements
+    ensures { λ r. ⌜ (r .walk ≡ Walk.Stops place) × (r .count ≡ 0) × (r .numbers ≡ noNumbers) ⌝ }
+{
+    let numbers = [0u64; PLAN_NUMBERS];
+    Placements {
+        walk: Walk::Stops(place),
+        count: 0,
+        numbers,
+    }
+}
+
+fn listed(text: &[u8], from: usize, count: u64) -> Placements
+    requires { ⌜ count ≤ piecesMost ⌝ }
+    ensures { λ r. ⌜ PlacementsPart (someLines count 3) (count ∷ []) (now (text .entry)) from (r .walk) (r .count) (r .numbers) ⌝ }
+{
+    let mut numbers = [0u64; PLAN_NUMBERS];
+    let walk = placement_lines(text, from, count as usize, &mut numbers);
+    match walk {
+        Walk::Stops(place) => no_placements(place),
+        Walk::To(next) => Placements {
+            walk: Walk::To(next),
+            count,
+            numbers,
+        },
+    }
+}
+
+// More placements than a plan may have are out of range, so that nobody needs their lines.
+fn unlisted(text: &[u8], from: usize, count: u64) -> Placements
+    requires { ⌜ piecesMost < count ⌝ }
+    ensures { λ r. ⌜ PlacementsPart (someLines count 3) (count ∷ []) (now (text .entry)) from (r .walk) (r .count) (r .numbers) ⌝ }
+{
+    let walk = skip_lines(text, from, count, 3);
+    match walk {
+        Walk::Stops(place) => no_placements(place),
+        Walk::To(next) => {
+            let numbers = [0u64; PLAN_NUMBERS];
+            Placements {
+                walk: Walk::To(next),
+                count,
+                numbers,
+            }
+        }
+    }
+}
+
+pub fn placement_section(text: &[u8], from: usize) -> Placements
+    ensures { λ r. ⌜ PlacementsPart (section 3) [] (now (text .entry)) from (r .walk) (r .count) (r .numbers) ⌝ }
+{
+    match number(text, from, LF) {
+        Numeral::IsNot(place) => no_placements(place),
+        Numeral::Is(count, next) => {
+            if count <= PIECES_MOST as u64 {
+                return listed(text, next, count);
+            }
+            unlisted(text, next, count)
+        }
     }
 }

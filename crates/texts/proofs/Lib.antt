@@ -1,0 +1,4 @@
+-- Laws for the proofs of this crate.
+pub mod Ends
+pub mod Judged
+pub mod JobTexts

@@ -1,0 +1,2 @@
+-- What the readers of texts answer.
+pub mod Told

@@ -2,3 +2,5 @@
 pub mod Ends
 pub mod Judged
 pub mod JobTexts
+pub mod Copied
+pub mod PlanTexts

@@ -4,3 +4,4 @@ pub mod Judged
 pub mod JobTexts
 pub mod Copied
 pub mod PlanTexts
+pub mod Once

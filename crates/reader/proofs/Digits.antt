@@ -13,9 +13,9 @@ use borrow.Author.Tests.{leb-true, ltb-true, eqb-true, lt-ltb, le-ltb, eq-eqb, n
 use Rattle.rules.specs.Limits.{digitsMost}
 use Rattle.rules.proofs.Reading.{isDigit, room}
 use Rattle.rules.proofs.Bools.{and-both, both-and}
-use Rattle.reading.specs.Number.{numberFrom}
-use Rattle.reading.specs.declared.Numeral.{Numeral}
-use Rattle.reading.specs.declared.Numeral.the-variants.{Is, IsNot}
+use Rattle.reader.specs.Number.{numberFrom}
+use Rattle.reader.specs.declared.Numeral.{Numeral}
+use Rattle.reader.specs.declared.Numeral.the-variants.{Is, IsNot}
 
 module _ (e : ℕ) (s : List ℕ) (i n v : ℕ) where
   pub out : length s ≤ i → numberFrom e i n v (drop i s) ≡ IsNot i

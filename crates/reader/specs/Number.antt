@@ -5,8 +5,8 @@ use Prim.Native.Nat.{ℕ, suc, _+_, _*_, _-_}
 use lib.ListN.{drop}
 use lib.Dec.{eqb, ltb}
 use Rattle.rules.proofs.Reading.{isDigit, room}
-use Rattle.reading.specs.declared.Numeral.{Numeral}
-use Rattle.reading.specs.declared.Numeral.the-variants.{Is, IsNot}
+use Rattle.reader.specs.declared.Numeral.{Numeral}
+use Rattle.reader.specs.declared.Numeral.the-variants.{Is, IsNot}
 
 -- at byte i of the text, with n digits read, whose value is v; e is the byte that ends the number
 abbrev pub numberFrom : ℕ → ℕ → ℕ → ℕ → List ℕ → Numeral

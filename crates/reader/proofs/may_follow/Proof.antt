@@ -1,9 +1,9 @@
--- `reading::may_follow` meets its contract: each test that was passed rewrites the definition. Assumes nothing.
+-- `reader::may_follow` meets its contract: each test that was passed rewrites the definition. Assumes nothing.
 use native.Mathlib.Omega.{arith}
 use borrow.Author.Needs.{needs}
 use borrow.Author.Tests.{le-ltb, lt-ltb, le-leb, lt-leb, eq-eqb, ne-eqb}
-use Rattle.reading.proofs.may_follow.Statement.{statement}
-use Rattle.reading.proofs.may_follow.Tie as tie
+use Rattle.reader.proofs.may_follow.Statement.{statement}
+use Rattle.reader.proofs.may_follow.Tie as tie
 
 returns : tie.Need-returns
 returns c = simp (lt-leb _ _ (c .if1 .taken))

@@ -10,9 +10,9 @@ use lib.Dec.{eqb, ltb}
 use native.Mathlib.Numerals.{add-one}
 use Rattle.rules.specs.Text.{Script, num, End, byte}
 use Rattle.rules.proofs.Reading.{Read, ok, stop, read, noted, isDigit, room}
-use Rattle.reading.specs.Number.{numberFrom, numberAt}
-use Rattle.reading.specs.declared.Numeral.{Numeral}
-use Rattle.reading.specs.declared.Numeral.the-variants.{Is, IsNot}
+use Rattle.reader.specs.Number.{numberFrom, numberAt}
+use Rattle.reader.specs.declared.Numeral.{Numeral}
+use Rattle.reader.specs.declared.Numeral.the-variants.{Is, IsNot}
 
 abbrev pub follow : (ℕ → Script) → List ℕ → Numeral → Read
 follow k s (Is w j) = noted w (read (k w) j 0 0 (drop j s))

@@ -1,18 +1,18 @@
--- `reading::number` meets its contract. The invariant: what is still to be read from `at` gives the answer. Assumes nothing.
+-- `reader::number_at` meets its contract. The invariant: what is still to be read from `at` gives the answer. Assumes nothing.
 use mathlib.Core.Path.{_≡_, refl, sym, ap, _∙_}
 use Prim.Native.Nat.{_≤_, _<_, _-_, _^_, _+_}
 use native.Mathlib.Omega.{arith}
 use borrow.Author.Needs.{needs}
 use lib.ListN.{length, drop, getD}
 use Rattle.rules.specs.Limits.{digitsMost}
-use Rattle.reading.specs.Number.{numberFrom, numberAt}
-use Rattle.reading.proofs.Digits.{out, one-digit, number, no-digit-yet, other-byte, Grows, grows}
-use Rattle.reading.proofs.number.Statement.{statement}
-use Rattle.reading.proofs.number.Tie as tie
-use Rattle.reading.proofs.number.Reads as reads
-use Rattle.reading.proofs.number.Lts as lts
-use Rattle.reading.proofs.digit.Reads as digit-reads
-use Rattle.reading.proofs.may_follow.Reads as may-follow-reads
+use Rattle.reader.specs.Number.{numberFrom, numberAt}
+use Rattle.reader.proofs.Digits.{out, one-digit, number, no-digit-yet, other-byte, Grows, grows}
+use Rattle.reader.proofs.number_at.Statement.{statement}
+use Rattle.reader.proofs.number_at.Tie as tie
+use Rattle.reader.proofs.number_at.Reads as reads
+use Rattle.reader.proofs.number_at.Lts as lts
+use Rattle.reader.proofs.digit.Reads as digit-reads
+use Rattle.reader.proofs.may_follow.Reads as may-follow-reads
 
 abbrev Inv-loop : tie.InvT-loop
 Inv-loop text from end at₀ digits₀ value₀ at digits value = (numberAt end text from ≡ numberFrom end at digits value (drop at text)) × (value < 10 ^ digits) × (digits ≤ digitsMost)
@@ -85,5 +85,5 @@ returns-4 c =
     let l = c .before .loop in
     sym (l .inv .0 ∙ out _ _ (l .at) (l .digits) (l .value) (c .loop-test .left))
 
-pub number-spec : {M : Type 1} → statement M
-number-spec = tie.close (tie.spec Inv-loop μ-loop loop-holds shared-slice-read-b may-follow-requires mul-value digit-requires add-value add-digits add-at loop-less loop-again add-t17 returns returns-2 returns-3 returns-4)
+pub number-at-spec : {M : Type 1} → statement M
+number-at-spec = tie.close (tie.spec Inv-loop μ-loop loop-holds shared-slice-read-b may-follow-requires mul-value digit-requires add-value add-digits add-at loop-less loop-again add-t17 returns returns-2 returns-3 returns-4)

@@ -51,3 +51,51 @@ job-of-once vs a b p q =
 
 pub job-read-once : {t : List ℕ} {a b : JobAnswer} → JobRead t a → JobRead t b → a ≡ b
 job-read-once x y = read-once (λ a b. a ≡ b) (λ a. refl) job-of-once x y
+
+-- lists in two parts of the same lengths
+same-parts : (a b c d : List ℕ) → length a ≡ length c → a ++ b ≡ c ++ d → (a ≡ c) × (b ≡ d)
+same-parts [] b [] d l e = (refl, e)
+same-parts [] b (y ∷ c) d l e = absurd (omega arith)
+same-parts (x ∷ a) b [] d l e = absurd (omega arith)
+same-parts (x ∷ a) b (y ∷ c) d l e =
+    let r = same-parts a b c d (omega arith) (tail-eq-of-cons-eq e) in
+    let h = head-eq-of-cons-eq e in
+    ((λ i. h i ∷ r .0 i), r .1)
+
+length-of-items : (n : ℕ) (ts us : List PieceType) → length ts ≡ length us → length (typeItems (take n (map typeOf ts))) ≡ length (typeItems (take n (map typeOf us)))
+length-of-items zero ts us l = refl
+length-of-items (suc n) [] [] l = refl
+length-of-items (suc n) [] (u ∷ us) l = absurd (omega arith)
+length-of-items (suc n) (t ∷ ts) [] l = absurd (omega arith)
+length-of-items (suc n) (t ∷ ts) (u ∷ us) l = omega (arith, length-of-items n ts us (omega arith))
+
+-- the items of two plan texts that agree: the jobs' and those behind them
+split-items : (j k : Job) → length (j .types) ≡ length (k .types) → (vs ws : List ℕ) → itemsOf j ++ vs ≡ itemsOf k ++ ws → (itemsOf j ≡ itemsOf k) × (vs ≡ ws)
+split-items j k l vs ws e =
+    let e₁ = tail-eq-of-cons-eq e in
+    let e₂ = tail-eq-of-cons-eq e₁ in
+    let e₃ = tail-eq-of-cons-eq e₂ in
+    let e₄ = tail-eq-of-cons-eq e₃ in
+    let c : j .count ≡ k .count = head-eq-of-cons-eq e₄ in
+    let n : length (itemsOf j) ≡ length (itemsOf k) = omega (arith, length-of-items (j .count) (j .types) (k .types) l, ap (λ n. length (typeItems (take n (map typeOf (k .types))))) c) in
+    same-parts (itemsOf j) vs (itemsOf k) ws n e
+
+plan-of-once : {buffer : List ℕ} (vs : List ℕ) (a b : PlanTextLeft) → PlanOf buffer vs a → PlanOf buffer vs b → a ≡ b
+plan-of-once {buffer} vs a b (kept {job = j} {n = n} {now = l} e s d h z r) (kept {job = k} {n = m} {now = u} f t g i y q) =
+    let p = split-items j k (s ∙ sym t) (n ∷ take (numbersOfPlacements n) l) (m ∷ take (numbersOfPlacements m) u) (sym e ∙ f) in
+    let c : n ≡ m = head-eq-of-cons-eq (p .1) in
+    let job : j ≡ k = same-job j k (s ∙ sym t) d g (p .0) in
+    let front : take (numbersOfPlacements n) l ≡ take (numbersOfPlacements n) u = tail-eq-of-cons-eq (p .1) ∙ ap (λ x. take (numbersOfPlacements x) u) (sym c) in
+    let back : drop (numbersOfPlacements n) l ≡ drop (numbersOfPlacements n) u = r ∙ ap (λ x. drop (numbersOfPlacements x) buffer) c ∙ sym q ∙ ap (λ x. drop (numbersOfPlacements x) u) (sym c) in
+    let now : l ≡ u = sym (take-append-drop (numbersOfPlacements n) l) ∙ (λ x. front x ++ back x) ∙ take-append-drop (numbersOfPlacements n) u in
+    λ x. record { number = 0; place = 0; job = job x; placements = c x; buffer = now x }
+plan-of-once vs a b (kept {job = j} {n = n} e s d h z r) (short k m flat f t g i) =
+    let p = split-items j k (s ∙ sym t) _ _ (sym e ∙ f) in
+    let c : n ≡ m = head-eq-of-cons-eq (p .1) in absurd (omega arith)
+plan-of-once vs a b (short k m flat f t g i) (kept {job = j} {n = n} e s d h z r) =
+    let p = split-items j k (s ∙ sym t) _ _ (sym e ∙ f) in
+    let c : n ≡ m = head-eq-of-cons-eq (p .1) in absurd (omega arith)
+plan-of-once vs a b (short j n flat e s g h) (short k m flat′ f t g′ i) = refl
+
+pub plan-read-once : {buffer t : List ℕ} {a b : PlanTextLeft} → PlanRead buffer t a → PlanRead buffer t b → a ≡ b
+plan-read-once x y = read-once (λ a b. a ≡ b) (λ a. refl) plan-of-once x y

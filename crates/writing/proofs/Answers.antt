@@ -1,0 +1,35 @@
+-- From the bytes that were put to what a writer answers; and that no two answers are permitted. Assumes nothing.
+use mathlib.Core.Path.{_≡_, refl, sym, ap, _∙_, subst}
+use mathlib.Core.List.{List, _++_}
+use Prim.Native.Nat.{ℕ, _+_, _-_, _≤_, _<_}
+use native.Mathlib.Omega.{arith}
+use lib.ListN.{length, take, drop, length-drop}
+use Rattle.rules.specs.Decimal.{Decimal}
+use Rattle.writing.specs.Answer.{Stored, TooShort, NoSuch, Writes}
+use Rattle.writing.specs.Steps.{digits, Put, InScratch}
+use Rattle.writing.proofs.Digits.{are-digits}
+
+module _ {Asked : List ℕ → Type 0} (bytes : List ℕ) {before : List ℕ} {at : ℕ} (asked : Asked bytes) where
+  pub is-stored : {after : List ℕ} {next : ℕ} → at + length bytes ≤ length before → Put bytes before at after next → Stored Asked before at after next
+  is-stored {after} {next} h p =
+      record {
+        bytes = bytes;
+        asked = asked;
+        ends = p .ends;
+        room = omega (arith, p .ends);
+        left = p .left ∙ ap (λ n. take at before ++ bytes ++ drop n before) (sym (p .ends));
+      }
+
+  pub is-short : length before < at + length bytes → TooShort Asked before at before
+  is-short h = record { bytes = bytes; asked = asked; short = h; left = refl }
+
+-- a number out of the scratch array
+module _ {n : ℕ} {bytes : List ℕ} {from : ℕ} (s : InScratch n bytes from) where
+  pub spelt : Decimal (drop from bytes) n
+  spelt = subst (λ ds. Decimal ds n) (sym (s .all)) (are-digits n)
+
+  pub number-stored : {before after : List ℕ} {at next : ℕ} → at + 20 ≤ from + length before → Put (drop from bytes) before at after next → Stored (λ ds. Decimal ds n) before at after next
+  number-stored h p = is-stored (drop from bytes) spelt (omega (arith, s .size, s .within, length-drop from bytes)) p
+
+  pub number-short : {before : List ℕ} {at : ℕ} → from + length before < at + 20 → TooShort (λ ds. Decimal ds n) before at before
+  number-short h = is-short (drop from bytes) spelt (omega (arith, s .size, s .within, length-drop from bytes))

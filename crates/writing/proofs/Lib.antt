@@ -1,0 +1,4 @@
+-- Laws for the proofs of this crate.
+pub mod Paste
+pub mod Digits
+pub mod Answers

@@ -1,0 +1,33 @@
+-- What a writer answers and leaves in the buffer: all the bytes that are asked for, or nothing. Assumes nothing.
+use mathlib.Core.Path.{_≡_}
+use mathlib.Core.List.{List, _++_}
+use Prim.Native.Nat.{ℕ, _+_, _≤_, _<_}
+use lib.ListN.{length, take, drop}
+use Rattle.writing.specs.declared.Written.{Written}
+use Rattle.writing.specs.declared.Written.the-variants.{To, Full, NoText}
+
+module _ (Asked : List ℕ → Type 0) (before : List ℕ) (at : ℕ) (after : List ℕ) where
+  -- bytes as asked for stand from `at` to `next`, and every other byte is as it was
+  pub record Stored (next : ℕ) : Type 0 where
+    pub bytes : List ℕ
+    pub asked : Asked bytes
+    pub ends : next ≡ at + length bytes
+    pub room : next ≤ length before
+    pub left : after ≡ take at before ++ bytes ++ drop next before
+
+  -- they would end behind the buffer, and every byte is as it was
+  pub record TooShort : Type 0 where
+    pub bytes : List ℕ
+    pub asked : Asked bytes
+    pub short : length before < at + length bytes
+    pub left : after ≡ before
+
+  -- no bytes are as asked for, and every byte is as it was
+  pub record NoSuch : Type 0 where
+    pub none : (bytes : List ℕ) → Asked bytes → ⊥
+    pub left : after ≡ before
+
+  abbrev pub Writes : Written → Type 0
+  Writes (To next) = Stored next
+  Writes Full = TooShort
+  Writes NoText = NoSuch

@@ -5,9 +5,12 @@ use Prim.Native.Nat.{ℕ, _+_, _-_, _≤_, _<_}
 use native.Mathlib.Omega.{arith}
 use lib.ListN.{length, take, drop, length-drop}
 use Rattle.rules.specs.Decimal.{Decimal}
-use Rattle.writing.specs.Answer.{Stored, TooShort, NoSuch, Writes}
-use Rattle.writing.specs.Steps.{digits, Put, InScratch}
+use Rattle.writing.specs.Answer.{Stored, TooShort, NoSuch, Writes, LineOf, SectionOf, HouseText}
+use Rattle.writing.specs.Steps.{digits, lineText, needed, Put, InScratch, Reaches}
+use Rattle.writing.specs.declared.Place.{Place}
+use Rattle.writing.specs.declared.Place.the-variants.{At, Beyond}
 use Rattle.writing.proofs.Digits.{are-digits}
+use Rattle.writing.proofs.Lines.{has-room, has-none, line-length, line-is}
 
 module _ {Asked : List ℕ → Type 0} (bytes : List ℕ) {before : List ℕ} {at : ℕ} (asked : Asked bytes) where
   pub is-stored : {after : List ℕ} {next : ℕ} → at + length bytes ≤ length before → Put bytes before at after next → Stored Asked before at after next
@@ -33,3 +36,14 @@ module _ {n : ℕ} {bytes : List ℕ} {from : ℕ} (s : InScratch n bytes from) 
 
   pub number-short : {before : List ℕ} {at : ℕ} → from + length before < at + 20 → TooShort (λ ds. Decimal ds n) before at before
   number-short h = is-short (drop from bytes) spelt (omega (arith, s .size, s .within, length-drop from bytes))
+
+-- a line
+module _ (vs o : List ℕ) (at : ℕ) {r : Place} (x : Reaches (needed vs) at (length o) r) where
+  pub line-room : {k : ℕ} → r ≡ At k → at + length (lineText vs) ≤ length o
+  line-room e = omega (arith, has-room (needed vs) at (length o) e x, line-length vs)
+
+  pub line-stored : {k : ℕ} {after : List ℕ} {next : ℕ} → r ≡ At k → Put (lineText vs) o at after next → Stored (LineOf vs) o at after next
+  line-stored e p = is-stored (lineText vs) (line-is vs) (line-room e) p
+
+  pub line-short : r ≡ Beyond → TooShort (LineOf vs) o at o
+  line-short e = is-short (lineText vs) (line-is vs) (omega (arith, has-none (needed vs) at (length o) e x, line-length vs))

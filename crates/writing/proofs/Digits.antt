@@ -26,7 +26,7 @@ last-digit n = go (n / 10) refl
         let s : 10 * suc r + n % 10 ≡ n = omega arith in
         decimal-once (are-digits n) (subst (Decimal (digits (suc r) ++ ((48 + n % 10) ∷ []))) s (more (are-digits (suc r)) (omega arith) (omega arith)))
 
-leading-some : (n : ℕ) → 0 < n → leading n ≡ digits n
+pub leading-some : (n : ℕ) → 0 < n → leading n ≡ digits n
 leading-some zero h = absurd (omega arith)
 leading-some (suc n) h = refl
 

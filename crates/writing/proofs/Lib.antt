@@ -2,3 +2,4 @@
 pub mod Paste
 pub mod Digits
 pub mod Answers
+pub mod Lines

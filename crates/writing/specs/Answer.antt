@@ -1,8 +1,14 @@
 -- What a writer answers and leaves in the buffer: all the bytes that are asked for, or nothing. Assumes nothing.
 use mathlib.Core.Path.{_≡_}
 use mathlib.Core.List.{List, _++_}
-use Prim.Native.Nat.{ℕ, _+_, _≤_, _<_}
+use Prim.Native.Nat.{ℕ, _+_, _*_, _≤_, _<_}
 use lib.ListN.{length, take, drop}
+use Rattle.rules.specs.Limits.{placementNumbers}
+use Rattle.rules.specs.Planner.{slotsOf}
+use Rattle.rules.specs.Text.{end, aLine, jobText}
+use Rattle.rules.specs.Printed.{Spelled, PlacementSection}
+use Rattle.shapes.specs.Handed.{itemsOf}
+use Rattle.shapes.specs.declared.Job.{Job}
 use Rattle.writing.specs.declared.Written.{Written}
 use Rattle.writing.specs.declared.Written.the-variants.{To, Full, NoText}
 
@@ -31,3 +37,15 @@ module _ (Asked : List ℕ → Type 0) (before : List ℕ) (at : ℕ) (after : L
   Writes (To next) = Stored next
   Writes Full = TooShort
   Writes NoText = NoSuch
+
+-- what is asked for: a line of these numbers
+abbrev pub LineOf : List ℕ → List ℕ → Type 0
+LineOf numbers bytes = Spelled (aLine (length numbers) end) bytes numbers
+
+-- the placement section of a list: "a length of flat numbers that is not a multiple of 3 loses its last one or two numbers"
+abbrev pub SectionOf : List ℕ → List ℕ → Type 0
+SectionOf flat bytes = PlacementSection bytes (slotsOf (length flat)) (take (slotsOf (length flat) * placementNumbers) flat)
+
+-- "the house job text of those numbers"
+abbrev pub HouseText : Job → List ℕ → Type 0
+HouseText job bytes = Spelled jobText bytes (itemsOf job)

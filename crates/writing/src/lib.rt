@@ -2,12 +2,17 @@
 // The programs print with them, and whoever makes a house text out of other numbers writes it with them.
 // Each writes all it is asked for or nothing: it answers the place behind the last byte, or that the buffer is too short,
 // and then every byte is as it was. A contract says which bytes stand where, and that all others stay.
+ghost use mathlib.Core.Path.{_≡_};
+ghost use mathlib.Core.List.{[], _∷_, _++_, map};
 ghost use Prim.Native.Nat.{_+_, _≤_};
 ghost use lib.ListN.{length, drop};
-ghost use mathlib.Core.Path.{_≡_};
 ghost use Rattle.rules.specs.Decimal.{Decimal};
-ghost use Rattle.writing.specs.Answer.{Writes};
-ghost use Rattle.writing.specs.Steps.{digits, Put, InScratch};
+ghost use Rattle.rules.specs.Items.{typeItems};
+ghost use Rattle.rules.specs.Printed.{PlanLine, CheckLine};
+ghost use Rattle.shapes.specs.Answer.{planLineOf, checkLineOf};
+ghost use Rattle.shapes.specs.Handed.{typeOf};
+ghost use Rattle.writing.specs.Answer.{Writes, LineOf, SectionOf, HouseText};
+ghost use Rattle.writing.specs.Steps.{digits, endByte, lineText, linesText, sectionText, needed, Put, InScratch, Reaches, LinesFit};
 
 // The digits of the largest number of 64 bits.
 const DIGITS: usize = 20;
@@ -71,4 +76,103 @@ pub fn number(n: u64, out: &mut [u8], at: usize) -> Written
         return Written::Full;
     }
     Written::To(copy(scratch, out, at))
+}
+
+fn digit_count(n: u64) -> usize
+    ensures { λ r. ⌜ r ≡ length (digits n) ⌝ }
+{
+    let mut count = 1;
+    let mut rest = n / 10;
+    while 0 < rest {
+        count += 1;
+        rest /= 10;
+    }
+    count
+}
+
+// Where numbers end that are written from some place on, each with the byte behind it.
+enum Place {
+    At(usize),
+    Beyond,
+}
+
+fn place_behind(numbers: &[u64], at: usize, size: usize) -> Place
+    ensures { λ r. ⌜ Reaches (needed (now (numbers .entry))) at size r ⌝ }
+{
+    if size < at {
+        return Place::Beyond;
+    }
+    let mut next = at;
+    let mut i = 0;
+    while i < numbers.len() {
+        let count = digit_count(numbers[i]);
+        i += 1;
+        if size - next <= count {
+            return Place::Beyond;
+        }
+        next += count + 1;
+    }
+    Place::At(next)
+}
+
+// The byte behind a number that has some numbers behind it on its line.
+fn end_byte(behind: usize) -> u8
+    ensures { λ r. ⌜ r ≡ endByte behind ⌝ }
+{
+    if behind == 0 {
+        return b'\n';
+    }
+    b' '
+}
+
+fn put_number(n: u64, end: u8, out: &mut [u8], at: usize) -> usize
+    requires { ⌜ at + length (digits n ++ end ∷ []) ≤ length (now out) ⌝ }
+    ensures { λ r. ⌜ Put (digits n ++ end ∷ []) (now (out .entry)) at (now (out .exit)) r ⌝ }
+{
+    let scratch = in_scratch(n);
+    let next = copy(scratch, out, at);
+    out[next] = end;
+    next + 1
+}
+
+fn put_line(numbers: &[u64], out: &mut [u8], at: usize) -> usize
+    requires { ⌜ at + length (lineText (now numbers)) ≤ length (now out) ⌝ }
+    ensures { λ r. ⌜ Put (lineText (now (numbers .entry))) (now (out .entry)) at (now (out .exit)) r ⌝ }
+{
+    let mut next = at;
+    let mut i = 0;
+    while i < numbers.len() {
+        let n = numbers[i];
+        i += 1;
+        let end = end_byte(numbers.len() - i);
+        next = put_number(n, end, out, next);
+    }
+    next
+}
+
+fn put_lines(count: usize, width: usize, flat: &[u64], out: &mut [u8], at: usize) -> usize
+    requires { ⌜ LinesFit count width (now flat) (now out) at ⌝ }
+    ensures { λ r. ⌜ Put (linesText count width (now (flat .entry))) (now (out .entry)) at (now (out .exit)) r ⌝ }
+{
+    let mut next = at;
+    let mut from = 0;
+    let mut i = 0;
+    while i < count {
+        let end = from + width;
+        next = put_line(&flat[from..end], out, next);
+        from = end;
+        i += 1;
+    }
+    next
+}
+
+// A line of numbers, one space between. A slice of no numbers is no line: no byte is written for it.
+pub fn line(numbers: &[u64], out: &mut [u8], at: usize) -> Written
+    ensures { λ r. ⌜ Writes (LineOf (now (numbers .entry))) (now (out .entry)) at (now (out .exit)) r ⌝ }
+{
+    let place = place_behind(numbers, at, out.len());
+    let Place::At(_) = place else {
+        return Written::Full;
+    };
+    Written::To(put_line(numbers, out, at))
 }

@@ -3,12 +3,13 @@ use mathlib.Core.Path.{_≡_, refl, sym, ap, _∙_, subst}
 use mathlib.Core.List.{List, [], _∷_, _++_, append-assoc, append-nil}
 use Prim.Native.Nat.{ℕ, zero, suc, _+_, _*_, _-_, _/_, _%_, _≤_, _<_}
 use native.Mathlib.Omega.{arith}
+use native.Mathlib.Nat.{suc-mul}
 use lib.ListN.{length, take, drop, set, getD, length-append, length-take, length-drop, take-append-drop, drop-of-length-le}
 use lib.Seq.{drop-cons, length-take-le, drop-drop}
 use Rattle.rules.specs.Text.{Script, end, num, aLine, someLines, section, byte, space, line}
 use Rattle.rules.specs.Printed.{Spelled, done, after}
 use Rattle.writing.specs.Answer.{LineOf}
-use Rattle.writing.specs.Steps.{digits, leading, endByte, lineText, linesText, sectionText, needed, Ruled, Counting, InScratch, Put, OnTheWay, Reaches, Reaching, Lining, LinesFit, Ruling}
+use Rattle.writing.specs.Steps.{digits, leading, endByte, lineText, linesText, sectionText, needed, Ruled, Counting, InScratch, Put, OnTheWay, Reaches, Reaching, Lining, LinesFit, Ruling, SectionFits}
 use Rattle.writing.specs.declared.Place.{Place}
 use Rattle.writing.specs.declared.Place.the-variants.{At, Beyond}
 use Rattle.writing.proofs.Digits.{are-digits, last-digit, leading-some}
@@ -75,6 +76,20 @@ has-room bytes at size e x = let y = subst (Reaches bytes at size) e x in omega 
 
 pub has-none : (bytes at size : ℕ) {r : Place} → r ≡ Beyond → Reaches bytes at size r → size < at + bytes
 has-none bytes at size e x = subst (Reaches bytes at size) e x
+
+pub reaches-then : (a b at size : ℕ) {next : ℕ} {r : Place} → r ≡ At next → Reaches a at size r → (q : Place) → Reaches b next size q → Reaches (a + b) at size q
+reaches-then a b at size e x (At k) y = let z = subst (Reaches a at size) e x in (omega (arith, z .0, y .0), y .1)
+reaches-then a b at size e x Beyond y = let z = subst (Reaches a at size) e x in omega (arith, z .0)
+
+-- a count, and then the numbers behind it
+module _ (n : ℕ) (vs : List ℕ) (at size : ℕ) {r : Place} (x : Reaches (needed (n ∷ [])) at size r) where
+  pub section-reaches : {next : ℕ} → r ≡ At next → (q : Place) → Reaches (needed vs) next size q → Reaches (needed (n ∷ vs)) at size q
+  section-reaches e q y =
+      let s : needed (n ∷ []) + needed vs ≡ needed (n ∷ vs) = omega arith in
+      subst (λ b. Reaches b at size q) s (reaches-then (needed (n ∷ [])) (needed vs) at size e x q y)
+
+  pub section-no-room : r ≡ Beyond → size < at + needed (n ∷ vs)
+  section-no-room e = let z = has-none (needed (n ∷ [])) at size e x in omega arith
 
 -- a line, number by number
 pub end-space : (behind : ℕ) → (behind ≡ 0 → ⊥) → byte space ≡ endByte behind
@@ -164,6 +179,38 @@ module _ (count w : ℕ) (flat : List ℕ) {o : List ℕ} {at : ℕ} where
     ruling-done h =
         let z : count - i ≡ 0 = omega arith in
         way-end (r .way) (ap (λ n. linesText n w (drop from flat)) z)
+
+-- lines of as many numbers as there are
+no-numbers : (vs : List ℕ) → length vs ≡ 0 → vs ≡ []
+no-numbers [] e = refl
+no-numbers (v ∷ vs) e = absurd (omega arith)
+
+pub ruled-by : (n w : ℕ) (vs : List ℕ) → length vs ≡ n * w → Ruled n w vs
+ruled-by zero w vs e = no-numbers vs (omega arith)
+ruled-by (suc n) w vs e =
+    let m = suc-mul n w in
+    (omega arith, ruled-by n w (drop w vs) (omega (arith, length-drop w vs)))
+
+-- a section: its count, and then its lines
+module _ (n w : ℕ) (vs o : List ℕ) (at : ℕ) (f : SectionFits n w vs o at) where
+  abbrev count-line : List ℕ
+  count-line = digits n ++ (byte line ∷ [])
+
+  section-parts : count-line ++ linesText n w vs ≡ sectionText n w vs
+  section-parts = append-assoc (digits n) (byte line ∷ []) (linesText n w vs)
+
+  both-fit : at + length (count-line ++ linesText n w vs) ≤ length o
+  both-fit = omega (arith, f .room, ap length section-parts)
+
+  pub count-room : at + length count-line ≤ length o
+  count-room = omega (arith, both-fit, length-append count-line (linesText n w vs))
+
+  module _ {m : List ℕ} {next : ℕ} (p : Put count-line o at m next) where
+    pub lines-room : LinesFit n w vs m next
+    lines-room = record { ruled = f .ruled; room = omega (arith, both-fit, length-append count-line (linesText n w vs), p .ends, ap length (p .left), length-pasted o at count-line count-room) }
+
+    pub section-put : {after : List ℕ} {then : ℕ} → Put (linesText n w vs) m next after then → Put (sectionText n w vs) o at after then
+    section-put {after} {then} q = subst (λ l. Put l o at after then) section-parts (put-both both-fit p q)
 
 -- spelled as the rules ask
 pub spelled-line : (vs : List ℕ) {s : Script} {t ws : List ℕ} → Spelled s t ws → Spelled (aLine (length vs) s) (lineText vs ++ t) (vs ++ ws)

@@ -7,8 +7,12 @@ use Rattle.rules.specs.Limits.{placementNumbers}
 use Rattle.rules.specs.Planner.{slotsOf}
 use Rattle.rules.specs.Text.{end, aLine, jobText}
 use Rattle.rules.specs.Printed.{Spelled, PlacementSection}
+use Rattle.rules.specs.Printed as printed
+use Rattle.shapes.specs.Answer.{planLineOf, checkLineOf}
 use Rattle.shapes.specs.Handed.{itemsOf}
 use Rattle.shapes.specs.declared.Job.{Job}
+use Rattle.shapes.specs.declared.PlanLine.{PlanLine}
+use Rattle.shapes.specs.declared.CheckLine.{CheckLine}
 use Rattle.writing.specs.declared.Written.{Written}
 use Rattle.writing.specs.declared.Written.the-variants.{To, Full, NoText}
 
@@ -41,6 +45,13 @@ module _ (Asked : List ℕ → Type 0) (before : List ℕ) (at : ℕ) (after : L
 -- what is asked for: a line of these numbers
 abbrev pub LineOf : List ℕ → List ℕ → Type 0
 LineOf numbers bytes = Spelled (aLine (length numbers) end) bytes numbers
+
+-- the line of an answer of the planner, and of the checker
+abbrev pub PlanLineOf : PlanLine → List ℕ → Type 0
+PlanLineOf l bytes = printed.PlanLine bytes (planLineOf l)
+
+abbrev pub CheckLineOf : CheckLine → List ℕ → Type 0
+CheckLineOf l bytes = printed.CheckLine bytes (checkLineOf l)
 
 -- the placement section of a list: "a length of flat numbers that is not a multiple of 3 loses its last one or two numbers"
 abbrev pub SectionOf : List ℕ → List ℕ → Type 0

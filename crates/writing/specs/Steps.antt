@@ -107,3 +107,7 @@ pub record Ruling (count width : ℕ) (flat before : List ℕ) (at : ℕ) (now :
   pub there : from ≤ length flat
   pub ruled : Ruled (count - i) width (drop from flat)
   pub way : OnTheWay (linesText count width flat) before at (linesText (count - i) width (drop from flat)) now next
+
+pub record SectionFits (count width : ℕ) (flat before : List ℕ) (at : ℕ) : Type 0 where
+  pub ruled : Ruled count width flat
+  pub room : at + length (sectionText count width flat) ≤ length before

@@ -8,11 +8,15 @@ ghost use Prim.Native.Nat.{_+_, _≤_};
 ghost use lib.ListN.{length, drop};
 ghost use Rattle.rules.specs.Decimal.{Decimal};
 ghost use Rattle.rules.specs.Items.{typeItems};
-ghost use Rattle.rules.specs.Printed.{PlanLine, CheckLine};
-ghost use Rattle.shapes.specs.Answer.{planLineOf, checkLineOf};
 ghost use Rattle.shapes.specs.Handed.{typeOf};
-ghost use Rattle.writing.specs.Answer.{Writes, LineOf, SectionOf, HouseText};
-ghost use Rattle.writing.specs.Steps.{digits, endByte, lineText, linesText, sectionText, needed, Put, InScratch, Reaches, LinesFit};
+ghost use Rattle.writing.specs.Answer.{Writes, LineOf, PlanLineOf, CheckLineOf, SectionOf, HouseText};
+ghost use Rattle.writing.specs.Steps.{digits, endByte, lineText, linesText, sectionText, needed, Put, InScratch, Reaches, LinesFit, SectionFits};
+use shapes::CheckLine;
+use shapes::Job;
+use shapes::PLACEMENT_NUMBERS;
+use shapes::PieceType;
+use shapes::PlanLine;
+use shapes::TYPES_MOST;
 
 // The digits of the largest number of 64 bits.
 const DIGITS: usize = 20;
@@ -175,4 +179,60 @@ pub fn line(numbers: &[u64], out: &mut [u8], at: usize) -> Written
         return Written::Full;
     };
     Written::To(put_line(numbers, out, at))
+}
+
+// "number, place, profit, length, width, pieces, N"
+pub fn plan_line(l: PlanLine, out: &mut [u8], at: usize) -> Written
+    ensures { λ r. ⌜ Writes (PlanLineOf l) (now (out .entry)) at (now (out .exit)) r ⌝ }
+{
+    let numbers = [
+        l.number,
+        l.place,
+        l.plan.profit,
+        l.plan.length,
+        l.plan.width,
+        l.plan.pieces,
+        l.plan.outlines,
+    ];
+    line(&numbers, out, at)
+}
+
+// "number, place, profit, pieces"
+pub fn check_line(l: CheckLine, out: &mut [u8], at: usize) -> Written
+    ensures { λ r. ⌜ Writes (CheckLineOf l) (now (out .entry)) at (now (out .exit)) r ⌝ }
+{
+    let numbers = [l.number, l.place, l.drawing.profit, l.drawing.pieces];
+    line(&numbers, out, at)
+}
+
+fn section_behind(count: usize, flat: &[u64], at: usize, size: usize) -> Place
+    ensures { λ r. ⌜ Reaches (needed (count ∷ now (flat .entry))) at size r ⌝ }
+{
+    let counted = [count as u64];
+    let place = place_behind(&counted, at, size);
+    let Place::At(next) = place else {
+        return Place::Beyond;
+    };
+    place_behind(flat, next, size)
+}
+
+fn put_section(count: usize, width: usize, flat: &[u64], out: &mut [u8], at: usize) -> usize
+    requires { ⌜ SectionFits count width (now flat) (now out) at ⌝ }
+    ensures { λ r. ⌜ Put (sectionText count width (now (flat .entry))) (now (out .entry)) at (now (out .exit)) r ⌝ }
+{
+    let next = put_number(count as u64, b'\n', out, at);
+    put_lines(count, width, flat, out, next)
+}
+
+// The placement section of a list of flat numbers: its count, and a line for each placement. A rest of one or two numbers is no placement.
+pub fn placement_section(flat: &[u64], out: &mut [u8], at: usize) -> Written
+    ensures { λ r. ⌜ Writes (SectionOf (now (flat .entry))) (now (out .entry)) at (now (out .exit)) r ⌝ }
+{
+    let count = shapes::placements_in(flat.len());
+    let end = count * PLACEMENT_NUMBERS;
+    let place = section_behind(count, &flat[..end], at, out.len());
+    let Place::At(_) = place else {
+        return Written::Full;
+    };
+    Written::To(put_section(count, PLACEMENT_NUMBERS, &flat[..end], out, at))
 }

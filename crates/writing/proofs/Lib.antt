@@ -3,3 +3,4 @@ pub mod Paste
 pub mod Digits
 pub mod Answers
 pub mod Lines
+pub mod House

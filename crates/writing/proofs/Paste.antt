@@ -3,8 +3,8 @@ use mathlib.Core.Path.{_≡_, refl, sym, ap, _∙_}
 use mathlib.Core.List.{List, [], _∷_, _++_, append-assoc, append-nil}
 use Prim.Native.Nat.{ℕ, suc, _+_, _≤_, _<_}
 use native.Mathlib.Omega.{arith}
-use lib.ListN.{length, take, drop, set, length-append, length-take, length-drop, take-append-drop}
-use lib.Seq.{set-split, take-at, drop-at, drop-drop, length-take-le, drop-append-add}
+use lib.ListN.{length, take, drop, set, length-append, length-take, length-drop, take-append-drop, drop-of-length-le}
+use lib.Seq.{set-split, sets-eq, take-at, drop-at, drop-drop, length-take-le, drop-append-add}
 use Rattle.writing.specs.Steps.{pasted, Put, OnTheWay}
 
 pub pasted-none : (o : List ℕ) (a : ℕ) → pasted o a [] ≡ o
@@ -55,3 +55,15 @@ way-end {now = now} {next = next} w e = record { ends = omega (arith, w .ends, a
 pub put-both : {xs ys o m n : List ℕ} {a b c : ℕ} → a + length (xs ++ ys) ≤ length o → Put xs o a m b → Put ys m b n c → Put (xs ++ ys) o a n c
 put-both {xs} {ys} {o} {m} {n} {a} {b} {c} h p q =
     way-end (way-on ys [] (way-on xs ys (way-start (xs ++ ys) o a h) refl p) (sym (append-nil ys)) q) refl
+
+-- four stores, one behind the other
+pub put-four : (o : List ℕ) (at a b c d : ℕ) → at + 4 ≤ length o → Put (a ∷ b ∷ c ∷ d ∷ []) o at (set (set (set (set o at a) (at + 1) b) (at + 2) c) (at + 3) d) (at + 4)
+put-four o at a b c d h =
+    let p : at + 1 ≡ suc at = omega arith in
+    let q : at + 2 ≡ suc (suc at) = omega arith in
+    let r : at + 3 ≡ suc (suc (suc at)) = omega arith in
+    record { ends = refl; left = (λ j. set (set (set (set o at a) (p j) b) (q j) c) (r j) d) ∙ sets-eq (a ∷ b ∷ c ∷ d ∷ []) o at h }
+
+-- as many as there are, so that none stays
+pub pasted-all : (o xs : List ℕ) → length xs ≡ length o → pasted o 0 xs ≡ xs
+pasted-all o xs e = ap (λ l. xs ++ l) (drop-of-length-le o {i = 0 + length xs} (omega arith)) ∙ append-nil xs

@@ -1,9 +1,13 @@
 -- The bytes of numbers as the code puts them one behind the other, and what each step leaves. Assumes nothing.
 use mathlib.Core.Path.{_≡_}
-use mathlib.Core.List.{List, [], _∷_, _++_}
-use Prim.Native.Nat.{ℕ, zero, suc, _+_, _/_, _-_, _^_, _≤_, _<_}
+use mathlib.Core.List.{List, [], _∷_, _++_, map}
+use Prim.Native.Nat.{ℕ, zero, suc, _+_, _*_, _/_, _-_, _^_, _≤_, _<_}
 use lib.ListN.{length, take, drop}
-use Rattle.rules.specs.Text.{byte, space, line}
+use Rattle.rules.specs.Text.{byte, space, line, jobText}
+use Rattle.rules.specs.Printed.{Spelled}
+use Rattle.rules.specs.Limits.{typesMost}
+use Rattle.rules.specs.Numbers.{PieceType}
+use Rattle.rules.specs.Items.{typeItems}
 use Rattle.writing.specs.declared.Place.{Place}
 use Rattle.writing.specs.declared.Place.the-variants.{At, Beyond}
 use Rattle.rules.proofs.Writing.{decimal-exists}
@@ -111,3 +115,17 @@ pub record Ruling (count width : ℕ) (flat before : List ℕ) (at : ℕ) (now :
 pub record SectionFits (count width : ℕ) (flat before : List ℕ) (at : ℕ) : Type 0 where
   pub ruled : Ruled count width flat
   pub room : at + length (sectionText count width flat) ≤ length before
+
+-- the numbers of the types are written out up to type i
+pub record Flattening (types : List PieceType) (before now : List ℕ) (i : ℕ) : Type 0 where
+  pub within : i ≤ typesMost
+  pub way : OnTheWay (typeItems types) before 0 (typeItems (drop i types)) now (4 * i)
+
+-- the numbers of a sheet's line, and those of the piece lines
+pub record TwoSections (sheet : List ℕ) (count : ℕ) (pieces : List ℕ) : Type 0 where
+  pub sheet-ruled : Ruled 1 3 sheet
+  pub pieces-ruled : Ruled count 4 pieces
+
+-- a job text of these items
+abbrev pub JobItems : List ℕ → ℕ → List ℕ → List ℕ → Type 0
+JobItems sheet count pieces bytes = Spelled jobText bytes (1 ∷ sheet ++ count ∷ pieces)

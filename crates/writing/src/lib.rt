@@ -10,7 +10,7 @@ ghost use Rattle.rules.specs.Decimal.{Decimal};
 ghost use Rattle.rules.specs.Items.{typeItems};
 ghost use Rattle.shapes.specs.Handed.{typeOf};
 ghost use Rattle.writing.specs.Answer.{Writes, LineOf, PlanLineOf, CheckLineOf, SectionOf, HouseText};
-ghost use Rattle.writing.specs.Steps.{digits, endByte, lineText, linesText, sectionText, needed, Put, InScratch, Reaches, LinesFit, SectionFits};
+ghost use Rattle.writing.specs.Steps.{digits, endByte, lineText, linesText, sectionText, needed, Put, InScratch, Reaches, LinesFit, SectionFits, TwoSections, JobItems};
 use shapes::CheckLine;
 use shapes::Job;
 use shapes::PLACEMENT_NUMBERS;
@@ -20,6 +20,11 @@ use shapes::TYPES_MOST;
 
 // The digits of the largest number of 64 bits.
 const DIGITS: usize = 20;
+
+// The numbers of the sheet's line, and of a piece line.
+const SHEET_NUMBERS: usize = 3;
+
+const PIECE_NUMBERS: usize = 4;
 
 // What a writer answers.
 pub enum Written {
@@ -235,4 +240,55 @@ pub fn placement_section(flat: &[u64], out: &mut [u8], at: usize) -> Written
         return Written::Full;
     };
     Written::To(put_section(count, PLACEMENT_NUMBERS, &flat[..end], out, at))
+}
+
+// The numbers of the piece lines, one line behind the other.
+fn piece_numbers(types: [PieceType; TYPES_MOST]) -> [u64; PIECE_NUMBERS * TYPES_MOST]
+    ensures { λ r. ⌜ r ≡ typeItems (map typeOf types) ⌝ }
+{
+    let mut flat = [0u64; PIECE_NUMBERS * TYPES_MOST];
+    let mut i = 0;
+    while i < TYPES_MOST {
+        let t = types[i];
+        let at = PIECE_NUMBERS * i;
+        flat[at] = t.length;
+        flat[at + 1] = t.width;
+        flat[at + 2] = t.profit;
+        flat[at + 3] = t.demand;
+        i += 1;
+    }
+    flat
+}
+
+fn two_sections(sheet: &[u64], count: usize, pieces: &[u64], out: &mut [u8], at: usize) -> Written
+    requires { ⌜ TwoSections (now sheet) count (now pieces) ⌝ }
+    ensures { λ r. ⌜ Writes (JobItems (now (sheet .entry)) count (now (pieces .entry))) (now (out .entry)) at (now (out .exit)) r ⌝ }
+{
+    let size = out.len();
+    let place = section_behind(1, sheet, at, size);
+    let Place::At(between) = place else {
+        return Written::Full;
+    };
+    let last = section_behind(count, pieces, between, size);
+    let Place::At(_) = last else {
+        return Written::Full;
+    };
+    let next = put_section(1, SHEET_NUMBERS, sheet, out, at);
+    Written::To(put_section(count, PIECE_NUMBERS, pieces, out, next))
+}
+
+// The house text of a job's numbers, whatever their ranges: the sheet, and the piece lines up to the count.
+// A count above the types that a job has room for asks for lines that are not there: no text has these items.
+pub fn job_text(job: Job, out: &mut [u8], at: usize) -> Written
+    ensures { λ r. ⌜ Writes (HouseText job) (now (out .entry)) at (now (out .exit)) r ⌝ }
+{
+    if (TYPES_MOST as u64) < job.count {
+        return Written::NoText;
+    }
+    let count = job.count as usize;
+    let sheet = [job.length, job.width, job.kerf];
+    let types = job.types;
+    let pieces = piece_numbers(types);
+    let end = count * PIECE_NUMBERS;
+    two_sections(&sheet, count, &pieces[..end], out, at)
 }

@@ -4,3 +4,4 @@ pub mod Digits
 pub mod Answers
 pub mod Lines
 pub mod House
+pub mod Back

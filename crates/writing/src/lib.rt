@@ -91,10 +91,10 @@ fn digit_count(n: u64) -> usize
     ensures { λ r. ⌜ r ≡ length (digits n) ⌝ }
 {
     let mut count = 1;
-    let mut rest = n / 10;
-    while 0 < rest {
+    let mut left = n / 10;
+    while 0 < left {
         count += 1;
-        rest /= 10;
+        left /= 10;
     }
     count
 }

@@ -7,10 +7,10 @@ use Rattle.writing.proofs.digit_count.Statement.{statement}
 use Rattle.writing.proofs.digit_count.Tie as tie
 
 abbrev Inv-loop : tie.InvT-loop
-Inv-loop n count₀ rest₀ count rest = Counting n count rest
+Inv-loop n count₀ left₀ count left = Counting n count left
 
 abbrev μ-loop : tie.MeasureT-loop
-μ-loop n count₀ rest₀ count rest = rest
+μ-loop n count₀ left₀ count left = left
 
 loop-holds : tie.Need-loop-holds Inv-loop μ-loop
 loop-holds c = counting-first (c .args .n)

@@ -124,3 +124,7 @@ read-back x a y = text-once y (spelled-text x a)
 pub text-asked : {s : Script} {t vs : List ℕ} → Text s t vs → Asked s vs
 text-asked done = none
 text-asked (after p l x) = one (text-asked x)
+
+pub spelled-asked : {s : Script} {t vs : List ℕ} → Spelled s t vs → Asked s vs
+spelled-asked printed.done = none
+spelled-asked (printed.after p x) = one (spelled-asked x)

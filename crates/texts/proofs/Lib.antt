@@ -5,3 +5,4 @@ pub mod JobTexts
 pub mod Copied
 pub mod PlanTexts
 pub mod Once
+pub mod Behind

@@ -9,11 +9,11 @@ use lib.Seq.{take-all, take-at, drop-at}
 use Rattle.rules.specs.Bag.{count, All, Same}
 use Rattle.rules.specs.Box.{Way, along, across}
 use Rattle.rules.specs.Parted.{CanBeParted, few}
-use Rattle.rules.proofs.Bags.{count-append, same-refl, same-trans, same-sym, same-length, same-map, map-append, all-map, all-image}
+use Rattle.rules.proofs.Bags.{count-append, same-refl, same-trans, same-sym, same-length, same-map, map-append, all-map, all-image, all-take, all-drop}
 use Rattle.rules.proofs.Heredity.{reorder}
 use Rattle.rules.proofs.Sweep.{split-iff, stuck, cut-same}
 use Rattle.parting.specs.Region.{otherWay, boxAt, boxesOf, Listed, Region, NoCut, Between, FirstPart, Divided, Asks, Answers}
-use Rattle.parting.proofs.Lines.{all-reordered, all-take, all-drop}
+use Rattle.parting.proofs.Lines.{all-reordered}
 
 module _ {A : Type 0} where
   same-front : (k : ℕ) (a l : List A) → Same a (take k l) → Same (a ++ drop k l) l

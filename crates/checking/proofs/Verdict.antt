@@ -24,7 +24,7 @@ use Rattle.placing.specs.Place.{noEntry, entryAt, placeIn, FirstAt, NoneAt}
 use Rattle.placing.specs.declared.Place.{Place}
 use Rattle.placing.specs.declared.Place.the-variants.{At, Nowhere}
 use Rattle.placing.proofs.Entries.{length-entries}
-use Rattle.checking.specs.Laid.{Laid, OnSheet, Ready, FirstOverlap, Counted}
+use Rattle.laying.specs.Laid.{Laid, OnSheet, Ready, FirstOverlap, Counted}
 
 -- what a test found
 pub found-none : (f : List Entry → Entry → Bool) (flat : List ℕ) {r : Place} → FirstAt f flat r → r ≡ Nowhere → NoneAt f flat

@@ -3,7 +3,7 @@ use borrow.Author.Needs.{needs}
 use Rattle.rules.specs.Checker.{notAType, offSheet, aboveDemand}
 use Rattle.shapes.specs.Handed.{numbersOf}
 use Rattle.placing.specs.Place.{Typed}
-use Rattle.checking.specs.Laid.{OnSheet}
+use Rattle.laying.specs.Laid.{OnSheet}
 use Rattle.checking.proofs.Verdict.{found-none, rejected-6, rejected-7, rejected-8}
 use Rattle.checking.proofs.check_in_range.Statement.{statement}
 use Rattle.checking.proofs.check_in_range.Tie as tie

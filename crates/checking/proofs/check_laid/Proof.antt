@@ -12,9 +12,9 @@ use Rattle.checking.proofs.check_laid.Statement.{statement}
 use Rattle.checking.proofs.check_laid.Tie as tie
 use Rattle.checking.proofs.check_laid.Reads as reads
 use Rattle.checking.proofs.check_laid.Lts as lts
-use Rattle.checking.proofs.count_up.Reads as count-up-reads
-use Rattle.checking.proofs.first_overlap.Reads as first-overlap-reads
-use Rattle.checking.proofs.lay_boxes.Reads as lay-boxes-reads
+use Rattle.laying.proofs.count_up.Reads as count-up-reads
+use Rattle.laying.proofs.first_overlap.Reads as first-overlap-reads
+use Rattle.laying.proofs.lay_boxes.Reads as lay-boxes-reads
 use Rattle.parting.proofs.can_be_parted.Reads as can-be-parted-reads
 use Rattle.placing.proofs.profit_of.Reads as profit-of-reads
 use Rattle.shapes.proofs.placements_in.Reads as placements-in-reads

@@ -2,9 +2,9 @@
 use Prim.Native.Nat.{_-_}
 use native.Mathlib.Omega.{arith}
 use borrow.Author.Needs.{needs}
-use Rattle.checking.proofs.Overlaps.{Sparse, sparse-start, sparse-next, sparse-found, sparse-end}
-use Rattle.checking.proofs.first_overlap.Statement.{statement}
-use Rattle.checking.proofs.first_overlap.Tie as tie
+use Rattle.laying.proofs.Overlaps.{Sparse, sparse-start, sparse-next, sparse-found, sparse-end}
+use Rattle.laying.proofs.first_overlap.Statement.{statement}
+use Rattle.laying.proofs.first_overlap.Tie as tie
 
 abbrev Inv-loop : tie.InvT-loop
 Inv-loop boxes count i₀ i = Sparse boxes count i

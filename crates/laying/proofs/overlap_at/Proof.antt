@@ -1,8 +1,8 @@
 -- `overlap_at` meets its contract: boxes that touch are apart. Assumes nothing.
 use borrow.Author.Needs.{needs}
-use Rattle.checking.proofs.Boxes.{apart-left, apart-right, apart-low, apart-or-not}
-use Rattle.checking.proofs.overlap_at.Statement.{statement}
-use Rattle.checking.proofs.overlap_at.Tie as tie
+use Rattle.laying.proofs.Boxes.{apart-left, apart-right, apart-low, apart-or-not}
+use Rattle.laying.proofs.overlap_at.Statement.{statement}
+use Rattle.laying.proofs.overlap_at.Tie as tie
 
 mul-a : tie.Need-mul-a
 mul-a c = search needs

@@ -12,7 +12,7 @@ use borrow.Author.Tests.{lt-ltb}
 use Rattle.rules.specs.Box.{Box, along, across, near, far, overlap}
 use Rattle.rules.proofs.Boxes.{of-apart}
 use Rattle.parting.specs.Region.{boxAt, Listed}
-use Rattle.checking.specs.Laid.{Room, BoxPut}
+use Rattle.laying.specs.Laid.{Room, BoxPut}
 
 module _ (s : List ℕ) (i x length′ y width : ℕ) (r : Room s i x length′ y width) where
   abbrev one : List ℕ

@@ -16,7 +16,7 @@ use Rattle.parting.specs.Region.{boxAt}
 use Rattle.placing.specs.Place.{entryAt, FirstAt}
 use Rattle.placing.specs.declared.Place.the-variants.{At, Nowhere}
 use Rattle.placing.proofs.Seeking.{earlier, Seeking, seek-start, seek-next, seek-found, seek-none}
-use Rattle.checking.specs.Laid.{below, overlapsBelow, Laid, FirstOverlap}
+use Rattle.laying.specs.Laid.{below, overlapsBelow, Laid, FirstOverlap}
 
 -- nothing from k up to i overlaps box i
 pub record Clear (s : List ℕ) (i k : ℕ) : Type 0 where

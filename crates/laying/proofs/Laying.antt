@@ -20,7 +20,7 @@ use Rattle.shapes.specs.declared.Placement.{Placement}
 use Rattle.parting.specs.Region.{boxAt, Listed}
 use Rattle.placing.specs.Place.{noEntry, entryAt, OfJob, TypeOf}
 use Rattle.placing.proofs.Entries.{length-entries}
-use Rattle.checking.specs.Laid.{Room, BoxPut, Boxed, Laid, OnSheet, ToLay}
+use Rattle.laying.specs.Laid.{Room, BoxPut, Boxed, Laid, OnSheet, ToLay}
 
 pub record Laying (j : Job) (flat was s : List ℕ) (i : ℕ) : Type 0 where
   pub within : i ≤ slotsOf (length flat)

@@ -3,13 +3,13 @@ use Prim.Native.Nat.{_-_, _+_}
 use native.Mathlib.Omega.{arith}
 use borrow.Author.Needs.{needs}
 use Rattle.placing.proofs.Types.{typed-at}
-use Rattle.checking.specs.Laid.{Room}
-use Rattle.checking.proofs.Laying.{Laying, laying-start, box-room, laying-next, laying-end}
-use Rattle.checking.proofs.lay_boxes.Statement.{statement}
-use Rattle.checking.proofs.lay_boxes.Tie as tie
-use Rattle.checking.proofs.lay_boxes.Reads as reads
-use Rattle.checking.proofs.lay_boxes.Lts as lts
-use Rattle.checking.proofs.put_box.Reads as put-box-reads
+use Rattle.laying.specs.Laid.{Room}
+use Rattle.laying.proofs.Laying.{Laying, laying-start, box-room, laying-next, laying-end}
+use Rattle.laying.proofs.lay_boxes.Statement.{statement}
+use Rattle.laying.proofs.lay_boxes.Tie as tie
+use Rattle.laying.proofs.lay_boxes.Reads as reads
+use Rattle.laying.proofs.lay_boxes.Lts as lts
+use Rattle.laying.proofs.put_box.Reads as put-box-reads
 use Rattle.placing.proofs.entry_at.Reads as entry-at-reads
 use Rattle.placing.proofs.type_of.Reads as type-of-reads
 use Rattle.shapes.proofs.placements_in.Reads as placements-in-reads

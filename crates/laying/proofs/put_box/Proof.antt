@@ -2,9 +2,9 @@
 use native.Mathlib.Omega.{arith}
 use lib.ListN.{length-set}
 use borrow.Author.Needs.{needs}
-use Rattle.checking.proofs.Boxes.{box-put}
-use Rattle.checking.proofs.put_box.Statement.{statement}
-use Rattle.checking.proofs.put_box.Tie as tie
+use Rattle.laying.proofs.Boxes.{box-put}
+use Rattle.laying.proofs.put_box.Statement.{statement}
+use Rattle.laying.proofs.put_box.Tie as tie
 
 mul-at : tie.Need-mul-at
 mul-at c = search needs

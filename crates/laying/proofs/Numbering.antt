@@ -6,7 +6,7 @@ use native.Mathlib.Omega.{arith}
 use native.Mathlib.Decide.{ℕ-discrete}
 use lib.ListN.{length, getD, set, length-set}
 use lib.Seq.{getD-set-same, getD-set-other}
-use Rattle.checking.specs.Laid.{Counted}
+use Rattle.laying.specs.Laid.{Counted}
 
 pub record Numbering (was l : List ℕ) (i : ℕ) : Type 0 where
   pub same-length : length l ≡ length was

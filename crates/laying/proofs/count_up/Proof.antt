@@ -3,9 +3,9 @@ use Prim.Native.Nat.{_-_}
 use native.Mathlib.Omega.{arith}
 use lib.ListN.{length-set, length}
 use borrow.Author.Needs.{needs}
-use Rattle.checking.proofs.Numbering.{Numbering, numbering-start, numbering-next, numbering-end}
-use Rattle.checking.proofs.count_up.Statement.{statement}
-use Rattle.checking.proofs.count_up.Tie as tie
+use Rattle.laying.proofs.Numbering.{Numbering, numbering-start, numbering-next, numbering-end}
+use Rattle.laying.proofs.count_up.Statement.{statement}
+use Rattle.laying.proofs.count_up.Tie as tie
 
 abbrev Inv-loop : tie.InvT-loop
 Inv-loop order₀ i₀ order i = Numbering order₀ order i

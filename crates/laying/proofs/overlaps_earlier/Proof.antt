@@ -1,9 +1,9 @@
 -- `overlaps_earlier` meets its contract. Invariant and laws are in Overlaps. Assumes nothing.
 use native.Mathlib.Omega.{arith}
 use borrow.Author.Needs.{needs}
-use Rattle.checking.proofs.Overlaps.{Clear, clear-start, clear-next, clear-found, clear-end}
-use Rattle.checking.proofs.overlaps_earlier.Statement.{statement}
-use Rattle.checking.proofs.overlaps_earlier.Tie as tie
+use Rattle.laying.proofs.Overlaps.{Clear, clear-start, clear-next, clear-found, clear-end}
+use Rattle.laying.proofs.overlaps_earlier.Statement.{statement}
+use Rattle.laying.proofs.overlaps_earlier.Tie as tie
 
 abbrev Inv-loop : tie.InvT-loop
 Inv-loop boxes i k₀ k = Clear boxes i k

@@ -1,2 +1,0 @@
--- What the parts of the checker ask for and answer.
-pub mod Laid

@@ -9,7 +9,7 @@ use lib.Seq.{drop-cons, length-take-le, drop-drop}
 use Rattle.rules.specs.Text.{Script, end, num, aLine, someLines, section, byte, space, line}
 use Rattle.rules.specs.Printed.{Spelled, done, after}
 use Rattle.writing.specs.Answer.{LineOf}
-use Rattle.writing.specs.Steps.{digits, leading, endByte, lineText, linesText, sectionText, needed, Ruled, Counting, InScratch, Put, OnTheWay, Reaches, Reaching, Lining, LinesFit, Ruling, SectionFits}
+use Rattle.writing.specs.Steps.{digits, leading, endByte, lineText, linesText, sectionText, needed, Ruled, Counting, InScratch, CopyFits, Put, OnTheWay, Reaches, Reaching, Lining, LinesFit, Ruling, SectionFits}
 use Rattle.writing.specs.declared.Place.{Place}
 use Rattle.writing.specs.declared.Place.the-variants.{At, Beyond}
 use Rattle.writing.proofs.Digits.{are-digits, last-digit, leading-some}
@@ -100,8 +100,8 @@ module _ {n : ℕ} {bytes : List ℕ} {from : ℕ} (s : InScratch n bytes from) 
   ended-length : at + length (drop from bytes) + 1 ≤ length o
   ended-length = omega (arith, ap length (s .all), length-append (digits n) (e ∷ []))
 
-  pub ended-room : at + 20 ≤ from + length o
-  ended-room = omega (arith, ended-length, s .size, s .within, length-drop from bytes)
+  pub ended-room : CopyFits from o at
+  ended-room = record { within = s .within; room = omega (arith, ended-length, s .size, s .within, length-drop from bytes) }
 
   module _ {m : List ℕ} {next : ℕ} (p : Put (drop from bytes) o at m next) where
     pub ended-place : next < length m

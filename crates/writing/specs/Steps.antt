@@ -16,6 +16,10 @@ use Rattle.rules.proofs.Writing.{decimal-exists}
 unfoldable pub digits : ℕ → List ℕ
 digits n = decimal-exists n .0
 
+-- the places of the scratch array: a number of 64 bits has no more digits
+abbrev pub scratchPlaces : ℕ
+scratchPlaces = 20
+
 -- the digits before those that were made: none where nothing is left of the number
 abbrev pub leading : ℕ → List ℕ
 leading zero = []
@@ -23,14 +27,14 @@ leading (suc n) = digits (suc n)
 
 -- the digits of n stand in the scratch array, from `from` to its end
 pub record InScratch (n : ℕ) (bytes : List ℕ) (from : ℕ) : Type 0 where
-  pub size : length bytes ≡ 20
-  pub within : from ≤ 20
+  pub size : length bytes ≡ scratchPlaces
+  pub within : from ≤ scratchPlaces
   pub all : drop from bytes ≡ digits n
 
 -- .. but for those of what is left of it
 pub record Making (n : ℕ) (bytes : List ℕ) (from rest : ℕ) : Type 0 where
-  pub size : length bytes ≡ 20
-  pub within : from < 20
+  pub size : length bytes ≡ scratchPlaces
+  pub within : from < scratchPlaces
   pub small : rest < 10 ^ from
   pub all : leading rest ++ drop from bytes ≡ digits n
 
@@ -49,9 +53,14 @@ pub record OnTheWay (whole before : List ℕ) (at : ℕ) (rest now : List ℕ) (
   pub ends : next + length rest ≡ at + length whole
   pub left : pasted now next rest ≡ pasted before at whole
 
+-- the bytes of the scratch array from `from` on have room in the buffer
+pub record CopyFits (from : ℕ) (before : List ℕ) (at : ℕ) : Type 0 where
+  pub within : from ≤ scratchPlaces
+  pub room : at + scratchPlaces ≤ from + length before
+
 -- the scratch array is copied up to i
 pub record Copying (bytes before : List ℕ) (at from : ℕ) (now : List ℕ) (i next : ℕ) : Type 0 where
-  pub within : i ≤ 20
+  pub within : i ≤ scratchPlaces
   pub way : OnTheWay (drop from bytes) before at (drop i bytes) now next
 
 -- the digits counted so far, and those of what is left of the number

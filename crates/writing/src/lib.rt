@@ -6,11 +6,10 @@ ghost use mathlib.Core.Path.{_≡_};
 ghost use mathlib.Core.List.{[], _∷_, _++_, map};
 ghost use Prim.Native.Nat.{_+_, _≤_};
 ghost use lib.ListN.{length, drop};
-ghost use Rattle.rules.specs.Decimal.{Decimal};
 ghost use Rattle.rules.specs.Items.{typeItems};
 ghost use Rattle.shapes.specs.Handed.{typeOf};
-ghost use Rattle.writing.specs.Answer.{Writes, LineOf, PlanLineOf, CheckLineOf, SectionOf, HouseText};
-ghost use Rattle.writing.specs.Steps.{digits, endByte, lineText, linesText, sectionText, needed, Put, InScratch, Reaches, LinesFit, SectionFits, TwoSections, JobItems};
+ghost use Rattle.writing.specs.Answer.{Writes, NumberOf, LineOf, PlanLineOf, CheckLineOf, SectionOf, HouseText};
+ghost use Rattle.writing.specs.Steps.{digits, endByte, lineText, linesText, sectionText, needed, Put, InScratch, CopyFits, Reaches, LinesFit, SectionFits, TwoSections, JobItems};
 use shapes::CheckLine;
 use shapes::Job;
 use shapes::PLACEMENT_NUMBERS;
@@ -58,7 +57,7 @@ fn in_scratch(n: u64) -> Scratch
 }
 
 fn copy(scratch: Scratch, out: &mut [u8], at: usize) -> usize
-    requires { ⌜ (scratch .from ≤ 20) × (at + 20 ≤ scratch .from + length (now out)) ⌝ }
+    requires { ⌜ CopyFits (scratch .from) (now out) at ⌝ }
     ensures { λ r. ⌜ Put (drop (scratch .from) (scratch .bytes)) (now (out .entry)) at (now (out .exit)) r ⌝ }
 {
     let bytes = scratch.bytes;
@@ -74,7 +73,7 @@ fn copy(scratch: Scratch, out: &mut [u8], at: usize) -> usize
 
 // A number in decimal digits.
 pub fn number(n: u64, out: &mut [u8], at: usize) -> Written
-    ensures { λ r. ⌜ Writes (λ bytes. Decimal bytes n) (now (out .entry)) at (now (out .exit)) r ⌝ }
+    ensures { λ r. ⌜ Writes (NumberOf n) (now (out .entry)) at (now (out .exit)) r ⌝ }
 {
     let scratch = in_scratch(n);
     let length = out.len();

@@ -1,4 +1,4 @@
--- From the bytes that were put to what a writer answers; and that no two answers are permitted. Assumes nothing.
+-- From the bytes that were put, or have no room, to what a writer answers. Assumes nothing.
 use mathlib.Core.Path.{_≡_, refl, sym, ap, _∙_, subst}
 use mathlib.Core.List.{List, _∷_, _++_}
 use Prim.Native.Nat.{ℕ, _+_, _*_, _-_, _≤_, _<_}
@@ -9,8 +9,8 @@ use Rattle.rules.specs.Decimal.{Decimal}
 use Rattle.rules.specs.Text.{section, end}
 use Rattle.rules.specs.Printed.{Spelled, done}
 use Rattle.rules.specs.Planner.{slotsOf}
-use Rattle.writing.specs.Answer.{Stored, TooShort, Writes, NumberOf, LineOf, SectionOf}
-use Rattle.writing.specs.Steps.{scratchPlaces, CopyFits, digits, lineText, sectionText, needed, Ruled, Put, InScratch, Reaches, SectionFits}
+use Rattle.writing.specs.Answer.{Stored, TooShort, NumberOf, LineOf, SectionOf}
+use Rattle.writing.specs.Steps.{scratchPlaces, CopyFits, lineText, sectionText, needed, Ruled, Put, InScratch, Reaches, SectionFits}
 use Rattle.writing.specs.declared.Place.{Place}
 use Rattle.writing.specs.declared.Place.the-variants.{At, Beyond}
 use Rattle.writing.proofs.Digits.{are-digits}

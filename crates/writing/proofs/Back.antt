@@ -4,12 +4,11 @@ use mathlib.Core.Option.{none}
 use mathlib.Core.List.{List, [], _∷_, _++_, map, append-assoc}
 use Prim.Native.Nat.{ℕ, zero, suc, _+_, _*_, _-_, _≤_, _<_}
 use native.Mathlib.Omega.{arith}
-use lib.ListN.{length, take, drop, length-take, length-append}
+use lib.ListN.{length, take, drop, length-take}
 use lib.Seq.{take-at, drop-at, length-take-le}
 use Rattle.rules.specs.Limits.{sizeMost, kerfMost, typesMost, profitMost, demandMost, piecesMost, placementNumbers}
 use Rattle.rules.specs.Bag.{All, nil, cons}
-use Rattle.rules.specs.Decimal.{Decimal}
-use Rattle.rules.specs.Items.{Range, from, ranges, pieceRanges, outOfRange, typeItems}
+use Rattle.rules.specs.Items.{Range, from, ranges, pieceRanges, outOfRange}
 use Rattle.rules.specs.Planner.{slotsOf}
 use Rattle.rules.specs.Text.{Script, end, section, Text, jobText}
 use Rattle.rules.specs.Printed.{Spelled}
@@ -17,7 +16,7 @@ use Rattle.rules.proofs.Ranges.{Kept, no-range, no-item, item, kept, length-ite
 use Rattle.rules.proofs.Writing.{decimal-once, spelled-once, spelled-text, read-back}
 use Rattle.shapes.specs.Handed.{typeOf, itemsOf}
 use Rattle.shapes.specs.declared.Job.{Job}
-use Rattle.writing.specs.Answer.{Stored, TooShort, NoSuch, Writes, NumberOf, SectionOf, HouseText}
+use Rattle.writing.specs.Answer.{Stored, Writes, NumberOf, SectionOf, HouseText}
 use Rattle.writing.specs.declared.Written.{Written}
 use Rattle.writing.specs.declared.Written.the-variants.{To, Full, NoText}
 

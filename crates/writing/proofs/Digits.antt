@@ -3,16 +3,21 @@ use mathlib.Core.Path.{_≡_, refl, sym, ap, _∙_, subst}
 use mathlib.Core.List.{List, [], _∷_, _++_, append-assoc}
 use Prim.Native.Nat.{ℕ, zero, suc, _+_, _*_, _/_, _%_, _^_, _-_, _≤_, _<_}
 use native.Mathlib.Omega.{arith}
-use lib.ListN.{length, length-drop, take, drop, set, getD, length-append, length-set, drop-of-length-le}
+use lib.ListN.{length, length-drop, drop, set, getD, length-set, drop-of-length-le}
 use lib.Seq.{drop-cons, getD-set-same, drop-set-lt}
 use Rattle.rules.specs.Decimal.{Decimal, digit, more}
-use Rattle.rules.proofs.Writing.{decimal-exists, decimal-once, decimal-below, decimal-above}
-use Rattle.writing.specs.Steps.{digits, leading, scratchPlaces, CopyFits, InScratch, Making, Put, Copying}
-use Rattle.writing.proofs.Paste.{way-start, way-on, way-end, put-one}
+use Rattle.rules.proofs.Writing.{decimal-exists, decimal-once}
+use Rattle.writing.specs.Steps.{digits, scratchPlaces, InScratch, Put, CopyFits}
+use Rattle.writing.proofs.Paste.{OnTheWay, way-start, way-on, way-end, put-one}
 
 pub are-digits : (n : ℕ) → Decimal (digits n) n
 unfolding digits
 are-digits n = decimal-exists n .1
+
+-- the digits before those that were made: none where nothing is left of the number
+abbrev pub leading : ℕ → List ℕ
+leading zero = []
+leading (suc n) = digits (suc n)
 
 -- the last digit, behind those of what is left without it
 pub last-digit : (n : ℕ) → digits n ≡ leading (n / 10) ++ ((48 + n % 10) ∷ [])
@@ -35,6 +40,13 @@ stored-front bytes i b h =
     let g = getD-set-same bytes i b 0 h in
     let d = drop-set-lt (suc i) bytes i b (omega arith) in
     drop-cons (set bytes i b) i 0 (omega (arith, length-set bytes i b)) ∙ λ j. g j ∷ d j
+
+-- the digits of n stand in the scratch array but for those of what is left of it
+pub record Making (n : ℕ) (bytes : List ℕ) (from rest : ℕ) : Type 0 where
+  pub size : length bytes ≡ scratchPlaces
+  pub within : from < scratchPlaces
+  pub small : rest < 10 ^ from
+  pub all : leading rest ++ drop from bytes ≡ digits n
 
 -- the first step, which every number has
 pub making-first : (n : ℕ) (bytes : List ℕ) → n < 10 ^ scratchPlaces → length bytes ≡ scratchPlaces → Making n (set bytes 19 (48 + n % 10)) 19 (n / 10)
@@ -79,6 +91,11 @@ module _ {n : ℕ} {bytes : List ℕ} {from rest : ℕ} (m : Making n bytes from
   making-done h =
       let z : rest ≡ 0 = omega arith in
       record { size = m .size; within = omega (arith, m .within); all = sym (ap (λ r. leading r ++ drop from bytes) z) ∙ m .all }
+
+-- the scratch array is copied up to i
+pub record Copying (bytes before : List ℕ) (at from : ℕ) (now : List ℕ) (i next : ℕ) : Type 0 where
+  pub within : i ≤ scratchPlaces
+  pub way : OnTheWay (drop from bytes) before at (drop i bytes) now next
 
 -- the copy of what stands in the scratch array
 module _ (bytes : List ℕ) (l : length bytes ≡ scratchPlaces) where

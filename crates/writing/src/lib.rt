@@ -17,8 +17,10 @@ use shapes::PieceType;
 use shapes::PlanLine;
 use shapes::TYPES_MOST;
 
-// The digits of the largest number of 64 bits.
-const DIGITS: usize = 20;
+// A number of 64 bits has at most 20 digits.
+const SCRATCH_PLACES: usize = 20;
+
+const DIGIT_ZERO: u64 = 48;
 
 // The numbers of the sheet's line, and of a piece line.
 const SHEET_NUMBERS: usize = 3;
@@ -31,26 +33,27 @@ pub enum Written {
     To(usize),
     // The buffer ends before the last byte. Nothing is written.
     Full,
-    // There is no such text. Nothing is written.
+    // There is no such text: a job whose count is above its types. Nothing is written.
     NoText,
 }
 
 // Digits that were made back to front: they stand from `from` to the end.
 struct Scratch {
-    bytes: [u8; DIGITS],
+    bytes: [u8; SCRATCH_PLACES],
     from: usize,
 }
 
+// Back to front, since a division takes off the last digit.
 fn in_scratch(n: u64) -> Scratch
     ensures { λ r. ⌜ InScratch n (r .bytes) (r .from) ⌝ }
 {
-    let mut bytes = [0u8; DIGITS];
-    let mut from = DIGITS - 1;
-    bytes[from] = (48 + n % 10) as u8;
+    let mut bytes = [0u8; SCRATCH_PLACES];
+    let mut from = SCRATCH_PLACES - 1;
+    bytes[from] = (DIGIT_ZERO + n % 10) as u8;
     let mut rest = n / 10;
     while 0 < rest {
         from -= 1;
-        bytes[from] = (48 + rest % 10) as u8;
+        bytes[from] = (DIGIT_ZERO + rest % 10) as u8;
         rest /= 10;
     }
     Scratch { bytes, from }
@@ -63,7 +66,7 @@ fn copy(scratch: Scratch, out: &mut [u8], at: usize) -> usize
     let bytes = scratch.bytes;
     let mut i = scratch.from;
     let mut next = at;
-    while i < DIGITS {
+    while i < SCRATCH_PLACES {
         out[next] = bytes[i];
         i += 1;
         next += 1;
@@ -80,7 +83,7 @@ pub fn number(n: u64, out: &mut [u8], at: usize) -> Written
     if length < at {
         return Written::Full;
     }
-    if length - at < DIGITS - scratch.from {
+    if length - at < SCRATCH_PLACES - scratch.from {
         return Written::Full;
     }
     Written::To(copy(scratch, out, at))

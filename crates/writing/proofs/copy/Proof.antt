@@ -2,8 +2,8 @@
 use mathlib.Core.Path.{_≡_}
 use lib.ListN.{length}
 use Prim.Native.Nat.{_-_}
-use Rattle.writing.specs.Steps.{scratchPlaces, Copying}
-use Rattle.writing.proofs.Digits.{copying-first, copying-room, copying-next, copying-done}
+use Rattle.writing.specs.Steps.{scratchPlaces}
+use Rattle.writing.proofs.Digits.{Copying, copying-first, copying-room, copying-next, copying-done}
 use borrow.Author.Needs.{needs}
 use Rattle.writing.proofs.copy.Statement.{statement}
 use Rattle.writing.proofs.copy.Tie as tie

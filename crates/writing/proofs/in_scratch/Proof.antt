@@ -2,8 +2,8 @@
 use lib.ListN.{replicate}
 use mathlib.Core.Path.{refl}
 use native.Mathlib.Omega.{arith}
-use Rattle.writing.specs.Steps.{scratchPlaces, Making}
-use Rattle.writing.proofs.Digits.{making-first, place-before, making-next, making-done}
+use Rattle.writing.specs.Steps.{scratchPlaces}
+use Rattle.writing.proofs.Digits.{Making, making-first, place-before, making-next, making-done}
 use borrow.Author.Needs.{needs}
 use Rattle.writing.proofs.in_scratch.Statement.{statement}
 use Rattle.writing.proofs.in_scratch.Tie as tie

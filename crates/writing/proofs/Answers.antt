@@ -1,4 +1,4 @@
--- From the bytes that were put to what a writer answers; and that no two answers are permitted. Assumes nothing.
+-- From the bytes that were put, or have no room, to what a writer answers. Assumes nothing.
 use mathlib.Core.Path.{_≡_, refl, sym, ap, _∙_, subst}
 use mathlib.Core.List.{List, _∷_, _++_}
 use Prim.Native.Nat.{ℕ, _+_, _*_, _-_, _≤_, _<_}
@@ -9,8 +9,8 @@ use Rattle.rules.specs.Decimal.{Decimal}
 use Rattle.rules.specs.Text.{section, end}
 use Rattle.rules.specs.Printed.{Spelled, done}
 use Rattle.rules.specs.Planner.{slotsOf}
-use Rattle.writing.specs.Answer.{Stored, TooShort, NoSuch, Writes, LineOf, SectionOf, HouseText}
-use Rattle.writing.specs.Steps.{digits, lineText, sectionText, needed, Ruled, Put, InScratch, Reaches, SectionFits}
+use Rattle.writing.specs.Answer.{Stored, TooShort, NumberOf, LineOf, SectionOf}
+use Rattle.writing.specs.Steps.{scratchPlaces, CopyFits, lineText, sectionText, needed, Ruled, Put, InScratch, Reaches, SectionFits}
 use Rattle.writing.specs.declared.Place.{Place}
 use Rattle.writing.specs.declared.Place.the-variants.{At, Beyond}
 use Rattle.writing.proofs.Digits.{are-digits}
@@ -35,10 +35,10 @@ module _ {n : ℕ} {bytes : List ℕ} {from : ℕ} (s : InScratch n bytes from) 
   pub spelt : Decimal (drop from bytes) n
   spelt = subst (λ ds. Decimal ds n) (sym (s .all)) (are-digits n)
 
-  pub number-stored : {before after : List ℕ} {at next : ℕ} → at + 20 ≤ from + length before → Put (drop from bytes) before at after next → Stored (λ ds. Decimal ds n) before at after next
-  number-stored h p = is-stored (drop from bytes) spelt (omega (arith, s .size, s .within, length-drop from bytes)) p
+  pub number-stored : {before after : List ℕ} {at next : ℕ} → CopyFits from before at → Put (drop from bytes) before at after next → Stored (NumberOf n) before at after next
+  number-stored f p = is-stored (drop from bytes) spelt (omega (arith, s .size, f .within, f .room, length-drop from bytes)) p
 
-  pub number-short : {before : List ℕ} {at : ℕ} → from + length before < at + 20 → TooShort (λ ds. Decimal ds n) before at before
+  pub number-short : {before : List ℕ} {at : ℕ} → from + length before < at + scratchPlaces → TooShort (NumberOf n) before at before
   number-short h = is-short (drop from bytes) spelt (omega (arith, s .size, s .within, length-drop from bytes))
 
 -- a line

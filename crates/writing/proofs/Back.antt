@@ -4,12 +4,11 @@ use mathlib.Core.Option.{none}
 use mathlib.Core.List.{List, [], _∷_, _++_, map, append-assoc}
 use Prim.Native.Nat.{ℕ, zero, suc, _+_, _*_, _-_, _≤_, _<_}
 use native.Mathlib.Omega.{arith}
-use lib.ListN.{length, take, drop, length-take, length-append}
+use lib.ListN.{length, take, drop, length-take}
 use lib.Seq.{take-at, drop-at, length-take-le}
 use Rattle.rules.specs.Limits.{sizeMost, kerfMost, typesMost, profitMost, demandMost, piecesMost, placementNumbers}
 use Rattle.rules.specs.Bag.{All, nil, cons}
-use Rattle.rules.specs.Decimal.{Decimal}
-use Rattle.rules.specs.Items.{Range, from, ranges, pieceRanges, outOfRange, typeItems}
+use Rattle.rules.specs.Items.{Range, from, ranges, pieceRanges, outOfRange}
 use Rattle.rules.specs.Planner.{slotsOf}
 use Rattle.rules.specs.Text.{Script, end, section, Text, jobText}
 use Rattle.rules.specs.Printed.{Spelled}
@@ -17,7 +16,7 @@ use Rattle.rules.proofs.Ranges.{Kept, no-range, no-item, item, kept, length-ite
 use Rattle.rules.proofs.Writing.{decimal-once, spelled-once, spelled-text, read-back}
 use Rattle.shapes.specs.Handed.{typeOf, itemsOf}
 use Rattle.shapes.specs.declared.Job.{Job}
-use Rattle.writing.specs.Answer.{Stored, TooShort, NoSuch, Writes, LineOf, SectionOf, HouseText}
+use Rattle.writing.specs.Answer.{Stored, Writes, NumberOf, SectionOf, HouseText}
 use Rattle.writing.specs.declared.Written.{Written}
 use Rattle.writing.specs.declared.Written.the-variants.{To, Full, NoText}
 
@@ -41,8 +40,14 @@ module _ (Asked : List ℕ → Type 0) (single : (a b : List ℕ) → Asked a �
   written-once NoText Full x y s t = absurd (s .none (t .bytes) (t .asked))
   written-once NoText NoText x y s t = record { answer = refl; buffer = s .left ∙ sym (t .left) }
 
-pub number-once : (n : ℕ) (o : List ℕ) (at : ℕ) (r q : Written) (x y : List ℕ) → Writes (λ ds. Decimal ds n) o at x r → Writes (λ ds. Decimal ds n) o at y q → Same r q x y
-number-once n = written-once (λ ds. Decimal ds n) (λ a b. decimal-once)
+  -- a caller that lends enough room gets all that it asks for
+  pub enough-room : (bytes : List ℕ) → Asked bytes → at + length bytes ≤ length o → (r : Written) (x : List ℕ) → Writes Asked o at x r → r ≡ To (at + length bytes)
+  enough-room bytes a h (To n) x s = ap To (s .ends ∙ ap (λ b. at + length b) (single (s .bytes) bytes (s .asked) a))
+  enough-room bytes a h Full x s = absurd (omega (arith, s .short, ap length (single (s .bytes) bytes (s .asked) a)))
+  enough-room bytes a h NoText x s = absurd (s .none bytes a)
+
+pub number-once : (n : ℕ) (o : List ℕ) (at : ℕ) (r q : Written) (x y : List ℕ) → Writes (NumberOf n) o at x r → Writes (NumberOf n) o at y q → Same r q x y
+number-once n = written-once (NumberOf n) (λ a b. decimal-once)
 
 -- every line, section and house text is asked for by a script and its numbers
 pub text-once : (s : Script) (vs o : List ℕ) (at : ℕ) (r q : Written) (x y : List ℕ) → Writes (λ bytes. Spelled s bytes vs) o at x r → Writes (λ bytes. Spelled s bytes vs) o at y q → Same r q x y

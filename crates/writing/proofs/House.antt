@@ -3,7 +3,7 @@ use mathlib.Core.Path.{_≡_, refl, sym, ap, _∙_, subst}
 use mathlib.Core.List.{List, [], _∷_, _++_, map}
 use Prim.Native.Nat.{ℕ, zero, suc, _+_, _*_, _-_, _≤_, _<_}
 use native.Mathlib.Omega.{arith}
-use lib.ListN.{length, take, drop, set, getD, length-append, length-take, length-drop, length-map, List·getD-map, drop-of-length-le}
+use lib.ListN.{length, take, drop, set, getD, length-append, length-take, length-map, List·getD-map, drop-of-length-le}
 use lib.Seq.{drop-cons, take-nil}
 use Rattle.rules.specs.Limits.{typesMost}
 use Rattle.rules.specs.Numbers.{PieceType}
@@ -16,11 +16,11 @@ use Rattle.rules.proofs.Answers.{asked-line, asked-lines}
 use Rattle.shapes.specs.Handed.{typeOf}
 use Rattle.shapes.specs.declared.PieceType as declared
 use Rattle.writing.specs.Answer.{Stored, TooShort, Writes}
-use Rattle.writing.specs.Steps.{sectionText, needed, Ruled, Put, Reaches, Flattening, SectionFits, TwoSections, JobItems}
+use Rattle.writing.specs.Steps.{sectionText, needed, Put, Reaches, SectionFits, TwoSections, JobItems}
 use Rattle.writing.specs.declared.Written.{Written}
 use Rattle.writing.specs.declared.Place.{Place}
 use Rattle.writing.specs.declared.Place.the-variants.{At, Beyond}
-use Rattle.writing.proofs.Paste.{length-pasted, pasted-all, way-start, way-on, way-end, put-four, put-both}
+use Rattle.writing.proofs.Paste.{OnTheWay, length-pasted, pasted-all, way-start, way-on, way-end, put-four, put-both}
 use Rattle.writing.proofs.Lines.{has-room, has-none, reaches-then, section-length, ruled-by, spelled-section, spelled-alone}
 use Rattle.writing.proofs.Answers.{is-stored, is-short}
 
@@ -30,6 +30,11 @@ type-at types i d h =
     let e = List·getD-map typeOf types i d in
     let k : suc i ≡ i + 1 = omega arith in
     drop-cons (map typeOf types) i (typeOf d) (omega (arith, length-map types typeOf)) ∙ λ j. e j ∷ drop (k j) (map typeOf types)
+
+-- the numbers of the types are written out up to type i
+pub record Flattening (types : List PieceType) (before now : List ℕ) (i : ℕ) : Type 0 where
+  pub within : i ≤ typesMost
+  pub way : OnTheWay (typeItems types) before 0 (typeItems (drop i types)) now (4 * i)
 
 pub type-count : (types : List declared.PieceType) → length types ≡ typesMost → length (map typeOf types) ≡ typesMost
 type-count types l = length-map types typeOf ∙ l

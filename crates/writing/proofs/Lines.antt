@@ -4,18 +4,22 @@ use mathlib.Core.List.{List, [], _∷_, _++_, append-assoc, append-nil}
 use Prim.Native.Nat.{ℕ, zero, suc, _+_, _*_, _-_, _/_, _%_, _≤_, _<_}
 use native.Mathlib.Omega.{arith}
 use native.Mathlib.Nat.{suc-mul}
-use lib.ListN.{length, take, drop, set, getD, length-append, length-take, length-drop, take-append-drop, drop-of-length-le}
+use lib.ListN.{length, take, drop, set, getD, length-append, length-drop, take-append-drop, drop-of-length-le}
 use lib.Seq.{drop-cons, length-take-le, drop-drop}
-use Rattle.rules.specs.Text.{Script, end, num, aLine, someLines, section, byte, space, line}
+use Rattle.rules.specs.Text.{Script, aLine, someLines, section, byte, space, line}
 use Rattle.rules.specs.Printed.{Spelled, done, after}
 use Rattle.writing.specs.Answer.{LineOf}
-use Rattle.writing.specs.Steps.{digits, leading, endByte, lineText, linesText, sectionText, needed, Ruled, Counting, InScratch, Put, OnTheWay, Reaches, Reaching, Lining, LinesFit, Ruling, SectionFits}
+use Rattle.writing.specs.Steps.{digits, endByte, lineText, linesText, sectionText, needed, Ruled, InScratch, CopyFits, Put, Reaches, LinesFit, SectionFits}
 use Rattle.writing.specs.declared.Place.{Place}
 use Rattle.writing.specs.declared.Place.the-variants.{At, Beyond}
-use Rattle.writing.proofs.Digits.{are-digits, last-digit, leading-some}
-use Rattle.writing.proofs.Paste.{length-pasted, way-start, way-on, way-end, put-one, put-both}
+use Rattle.writing.proofs.Digits.{leading, are-digits, last-digit, leading-some}
+use Rattle.writing.proofs.Paste.{OnTheWay, length-pasted, way-start, way-on, way-end, put-one, put-both}
 
--- the digits counted
+-- the digits counted so far, and those of what is left of the number
+pub record Counting (n count rest : ℕ) : Type 0 where
+  pub small : count + rest ≤ 1 + n / 10
+  pub all : count + length (leading rest) ≡ length (digits n)
+
 pub counting-first : (n : ℕ) → Counting n 1 (n / 10)
 counting-first n = record { small = omega arith; all = omega (arith, ap length (last-digit n), length-append (leading (n / 10)) ((48 + n % 10) ∷ [])) }
 
@@ -54,6 +58,12 @@ next-one : (vs : List ℕ) (i : ℕ) → i < length vs → drop i vs ≡ getD vs
 next-one vs i h =
     let n : suc i ≡ i + 1 = omega arith in
     drop-cons vs i 0 h ∙ ap (λ k. getD vs i 0 ∷ drop k vs) n
+
+-- the place behind the numbers up to i
+pub record Reaching (numbers : List ℕ) (at size i next : ℕ) : Type 0 where
+  pub within : i ≤ length numbers
+  pub room : next ≤ size
+  pub ends : next + needed (drop i numbers) ≡ at + needed numbers
 
 module _ (vs : List ℕ) (at size : ℕ) where
   pub reaching-first : at ≤ size → Reaching vs at size 0 at
@@ -100,8 +110,8 @@ module _ {n : ℕ} {bytes : List ℕ} {from : ℕ} (s : InScratch n bytes from) 
   ended-length : at + length (drop from bytes) + 1 ≤ length o
   ended-length = omega (arith, ap length (s .all), length-append (digits n) (e ∷ []))
 
-  pub ended-room : at + 20 ≤ from + length o
-  ended-room = omega (arith, ended-length, s .size, s .within, length-drop from bytes)
+  pub ended-room : CopyFits from o at
+  ended-room = record { within = s .within; room = omega (arith, ended-length, s .size, s .within, length-drop from bytes) }
 
   module _ {m : List ℕ} {next : ℕ} (p : Put (drop from bytes) o at m next) where
     pub ended-place : next < length m
@@ -109,6 +119,11 @@ module _ {n : ℕ} {bytes : List ℕ} {from : ℕ} (s : InScratch n bytes from) 
 
     pub put-ended : Put (digits n ++ (e ∷ [])) o at (set m next e) (next + 1)
     put-ended = put-both room (subst (λ ds. Put ds o at m next) (s .all) p) (put-one m next e ended-place)
+
+-- the numbers of a line are put up to i
+pub record Lining (numbers before : List ℕ) (at : ℕ) (now : List ℕ) (i next : ℕ) : Type 0 where
+  pub within : i ≤ length numbers
+  pub way : OnTheWay (lineText numbers) before at (lineText (drop i numbers)) now next
 
 module _ (vs : List ℕ) {o : List ℕ} {at : ℕ} where
   pub lining-first : at + length (lineText vs) ≤ length o → Lining vs o at o 0 at
@@ -134,6 +149,13 @@ module _ (vs : List ℕ) {o : List ℕ} {at : ℕ} where
     lining-done h = way-end (l .way) (ap lineText (drop-of-length-le vs {i = i} h))
 
 -- lines, one behind the other
+-- the lines are put up to line i, which begins at `from`
+pub record Ruling (count width : ℕ) (flat before : List ℕ) (at : ℕ) (now : List ℕ) (i from next : ℕ) : Type 0 where
+  pub within : i ≤ count
+  pub there : from ≤ length flat
+  pub ruled : Ruled (count - i) width (drop from flat)
+  pub way : OnTheWay (linesText count width flat) before at (linesText (count - i) width (drop from flat)) now next
+
 module _ (count w : ℕ) (flat : List ℕ) {o : List ℕ} {at : ℕ} where
   pub ruling-first : LinesFit count w flat o at → Ruling count w flat o at o 0 0 at
   ruling-first f =

@@ -4,8 +4,8 @@ use mathlib.Core.List.{List, [], _∷_, _++_, append-assoc, append-nil}
 use Prim.Native.Nat.{ℕ, suc, _+_, _≤_, _<_}
 use native.Mathlib.Omega.{arith}
 use lib.ListN.{length, take, drop, set, length-append, length-take, length-drop, take-append-drop, drop-of-length-le}
-use lib.Seq.{set-split, sets-eq, take-at, drop-at, drop-drop, length-take-le, drop-append-add}
-use Rattle.writing.specs.Steps.{pasted, Put, OnTheWay}
+use lib.Seq.{set-split, sets-eq, take-at, drop-at, drop-drop}
+use Rattle.writing.specs.Steps.{pasted, Put}
 
 pub pasted-none : (o : List ℕ) (a : ℕ) → pasted o a [] ≡ o
 pasted-none o a =
@@ -31,6 +31,13 @@ pub put-one : (o : List ℕ) (a b : ℕ) → a < length o → Put (b ∷ []) o a
 put-one o a b h =
     let e : suc a ≡ a + 1 = omega arith in
     record { ends = refl; left = set-split o a b h ∙ ap (λ n. take a o ++ b ∷ drop n o) e ∙ sym (append-assoc (take a o) (b ∷ []) (drop (a + 1) o)) }
+
+-- of the whole, the rest is still to be put, from `next` on
+pub record OnTheWay (whole before : List ℕ) (at : ℕ) (rest now : List ℕ) (next : ℕ) : Type 0 where
+  pub size : length now ≡ length before
+  pub room : at + length whole ≤ length before
+  pub ends : next + length rest ≡ at + length whole
+  pub left : pasted now next rest ≡ pasted before at whole
 
 pub way-start : (whole o : List ℕ) (at : ℕ) → at + length whole ≤ length o → OnTheWay whole o at whole o at
 way-start whole o at h = record { size = refl; room = h; ends = refl; left = refl }

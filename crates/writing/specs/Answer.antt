@@ -5,6 +5,7 @@ use Prim.Native.Nat.{ℕ, _+_, _*_, _≤_, _<_}
 use lib.ListN.{length, take, drop}
 use Rattle.rules.specs.Limits.{placementNumbers}
 use Rattle.rules.specs.Planner.{slotsOf}
+use Rattle.rules.specs.Decimal.{Decimal}
 use Rattle.rules.specs.Text.{end, aLine, jobText}
 use Rattle.rules.specs.Printed.{Spelled, PlacementSection}
 use Rattle.rules.specs.Printed as printed
@@ -42,7 +43,11 @@ module _ (Asked : List ℕ → Type 0) (before : List ℕ) (at : ℕ) (after : L
   Writes Full = TooShort
   Writes NoText = NoSuch
 
--- what is asked for: a line of these numbers
+-- what is asked for: a number
+abbrev pub NumberOf : ℕ → List ℕ → Type 0
+NumberOf n bytes = Decimal bytes n
+
+-- a line of these numbers
 abbrev pub LineOf : List ℕ → List ℕ → Type 0
 LineOf numbers bytes = Spelled (aLine (length numbers) end) bytes numbers
 

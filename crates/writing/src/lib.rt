@@ -6,11 +6,10 @@ ghost use mathlib.Core.Path.{_≡_};
 ghost use mathlib.Core.List.{[], _∷_, _++_, map};
 ghost use Prim.Native.Nat.{_+_, _≤_};
 ghost use lib.ListN.{length, drop};
-ghost use Rattle.rules.specs.Decimal.{Decimal};
 ghost use Rattle.rules.specs.Items.{typeItems};
 ghost use Rattle.shapes.specs.Handed.{typeOf};
-ghost use Rattle.writing.specs.Answer.{Writes, LineOf, PlanLineOf, CheckLineOf, SectionOf, HouseText};
-ghost use Rattle.writing.specs.Steps.{digits, endByte, lineText, linesText, sectionText, needed, Put, InScratch, Reaches, LinesFit, SectionFits, TwoSections, JobItems};
+ghost use Rattle.writing.specs.Answer.{Writes, NumberOf, LineOf, PlanLineOf, CheckLineOf, SectionOf, HouseText};
+ghost use Rattle.writing.specs.Steps.{digits, endByte, lineText, linesText, sectionText, needed, Put, InScratch, CopyFits, Reaches, LinesFit, SectionFits, TwoSections, JobItems};
 use shapes::CheckLine;
 use shapes::Job;
 use shapes::PLACEMENT_NUMBERS;
@@ -18,8 +17,10 @@ use shapes::PieceType;
 use shapes::PlanLine;
 use shapes::TYPES_MOST;
 
-// The digits of the largest number of 64 bits.
-const DIGITS: usize = 20;
+// A number of 64 bits has at most 20 digits.
+const SCRATCH_PLACES: usize = 20;
+
+const DIGIT_ZERO: u64 = 48;
 
 // The numbers of the sheet's line, and of a piece line.
 const SHEET_NUMBERS: usize = 3;
@@ -32,39 +33,40 @@ pub enum Written {
     To(usize),
     // The buffer ends before the last byte. Nothing is written.
     Full,
-    // There is no such text. Nothing is written.
+    // There is no such text: a job whose count is above its types. Nothing is written.
     NoText,
 }
 
 // Digits that were made back to front: they stand from `from` to the end.
 struct Scratch {
-    bytes: [u8; DIGITS],
+    bytes: [u8; SCRATCH_PLACES],
     from: usize,
 }
 
+// Back to front, since a division takes off the last digit.
 fn in_scratch(n: u64) -> Scratch
     ensures { λ r. ⌜ InScratch n (r .bytes) (r .from) ⌝ }
 {
-    let mut bytes = [0u8; DIGITS];
-    let mut from = DIGITS - 1;
-    bytes[from] = (48 + n % 10) as u8;
+    let mut bytes = [0u8; SCRATCH_PLACES];
+    let mut from = SCRATCH_PLACES - 1;
+    bytes[from] = (DIGIT_ZERO + n % 10) as u8;
     let mut rest = n / 10;
     while 0 < rest {
         from -= 1;
-        bytes[from] = (48 + rest % 10) as u8;
+        bytes[from] = (DIGIT_ZERO + rest % 10) as u8;
         rest /= 10;
     }
     Scratch { bytes, from }
 }
 
 fn copy(scratch: Scratch, out: &mut [u8], at: usize) -> usize
-    requires { ⌜ (scratch .from ≤ 20) × (at + 20 ≤ scratch .from + length (now out)) ⌝ }
+    requires { ⌜ CopyFits (scratch .from) (now out) at ⌝ }
     ensures { λ r. ⌜ Put (drop (scratch .from) (scratch .bytes)) (now (out .entry)) at (now (out .exit)) r ⌝ }
 {
     let bytes = scratch.bytes;
     let mut i = scratch.from;
     let mut next = at;
-    while i < DIGITS {
+    while i < SCRATCH_PLACES {
         out[next] = bytes[i];
         i += 1;
         next += 1;
@@ -74,14 +76,14 @@ fn copy(scratch: Scratch, out: &mut [u8], at: usize) -> usize
 
 // A number in decimal digits.
 pub fn number(n: u64, out: &mut [u8], at: usize) -> Written
-    ensures { λ r. ⌜ Writes (λ bytes. Decimal bytes n) (now (out .entry)) at (now (out .exit)) r ⌝ }
+    ensures { λ r. ⌜ Writes (NumberOf n) (now (out .entry)) at (now (out .exit)) r ⌝ }
 {
     let scratch = in_scratch(n);
     let length = out.len();
     if length < at {
         return Written::Full;
     }
-    if length - at < DIGITS - scratch.from {
+    if length - at < SCRATCH_PLACES - scratch.from {
         return Written::Full;
     }
     Written::To(copy(scratch, out, at))

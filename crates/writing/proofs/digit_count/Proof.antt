@@ -1,8 +1,6 @@
-use borrow.Author.Needs.{needs}
 -- `writing::digit_count` meets its contract: the digits counted and those of what is left are all digits. Assumes nothing.
-use native.Mathlib.Omega.{arith}
-use Rattle.writing.specs.Steps.{Counting}
-use Rattle.writing.proofs.Lines.{counting-first, counting-next, counting-done}
+use borrow.Author.Needs.{needs}
+use Rattle.writing.proofs.Lines.{Counting, counting-first, counting-next, counting-done}
 use Rattle.writing.proofs.digit_count.Statement.{statement}
 use Rattle.writing.proofs.digit_count.Tie as tie
 

@@ -2,8 +2,8 @@
 use lib.ListN.{replicate}
 use mathlib.Core.Path.{refl}
 use native.Mathlib.Omega.{arith}
-use Rattle.writing.specs.Steps.{Making}
-use Rattle.writing.proofs.Digits.{making-first, place-before, making-next, making-done}
+use Rattle.writing.specs.Steps.{scratchPlaces}
+use Rattle.writing.proofs.Digits.{Making, making-first, place-before, making-next, making-done}
 use borrow.Author.Needs.{needs}
 use Rattle.writing.proofs.in_scratch.Statement.{statement}
 use Rattle.writing.proofs.in_scratch.Tie as tie
@@ -27,7 +27,7 @@ array-write-bytes : tie.Need-array-write-bytes Inv-loop μ-loop
 array-write-bytes c = search needs
 
 loop-holds : tie.Need-loop-holds Inv-loop μ-loop
-loop-holds c = making-first (c .args .n) (replicate 20 0) (omega arith) refl
+loop-holds c = making-first (c .args .n) (replicate scratchPlaces 0) (omega arith) refl
 
 sub-from-2 : tie.Need-sub-from-2 Inv-loop μ-loop
 sub-from-2 c = omega (arith, place-before (c .before .loop .inv) (c .loop-test .taken))

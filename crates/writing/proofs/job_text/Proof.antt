@@ -2,7 +2,6 @@
 use mathlib.Core.Path.{_≡_, refl, sym, _∙_}
 use mathlib.Core.List.{map}
 use lib.ListN.{length, length-map}
-use native.Mathlib.Omega.{arith}
 use Rattle.rules.specs.Limits.{typesMost}
 use Rattle.shapes.specs.Handed.{typeOf}
 use Rattle.writing.proofs.House.{no-text, pieces-length, job-ruled, job-written, type-count}

@@ -1,14 +1,12 @@
-use borrow.Author.Needs.{needs}
 -- `writing::piece_numbers` meets its contract: each turn writes the four numbers of a type behind those before it. Assumes nothing.
+use borrow.Author.Needs.{needs}
 use mathlib.Core.Path.{_≡_, refl}
 use mathlib.Core.List.{map}
 use Prim.Native.Nat.{_-_}
-use native.Mathlib.Omega.{arith}
-use lib.ListN.{length, replicate, length-set}
+use lib.ListN.{length, replicate}
 use Rattle.rules.specs.Limits.{typesMost}
 use Rattle.shapes.specs.Handed.{typeOf}
-use Rattle.writing.specs.Steps.{Flattening}
-use Rattle.writing.proofs.House.{flattening-first, flattening-size, flattening-next, flattening-done}
+use Rattle.writing.proofs.House.{Flattening, flattening-first, flattening-next, flattening-done}
 use Rattle.writing.proofs.piece_numbers.Statement.{statement}
 use Rattle.writing.proofs.piece_numbers.Tie as tie
 

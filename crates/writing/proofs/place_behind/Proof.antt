@@ -1,10 +1,8 @@
-use borrow.Author.Needs.{needs}
 -- `writing::place_behind` meets its contract: each turn goes past a number and the byte behind it, or stops at the end of the buffer. Assumes nothing.
+use borrow.Author.Needs.{needs}
 use Prim.Native.Nat.{_-_}
 use lib.ListN.{length}
-use native.Mathlib.Omega.{arith}
-use Rattle.writing.specs.Steps.{Reaching}
-use Rattle.writing.proofs.Lines.{reaching-first, reaching-next, reaching-beyond, reaching-done}
+use Rattle.writing.proofs.Lines.{Reaching, reaching-first, reaching-next, reaching-beyond, reaching-done}
 use Rattle.writing.proofs.place_behind.Statement.{statement}
 use Rattle.writing.proofs.place_behind.Tie as tie
 

@@ -1,10 +1,8 @@
-use borrow.Author.Needs.{needs}
 -- `writing::put_line` meets its contract: each turn puts a number with the byte that ends it. Assumes nothing.
+use borrow.Author.Needs.{needs}
 use Prim.Native.Nat.{_-_}
 use lib.ListN.{length}
-use native.Mathlib.Omega.{arith}
-use Rattle.writing.specs.Steps.{Lining}
-use Rattle.writing.proofs.Lines.{lining-first, lining-room, lining-next, lining-done}
+use Rattle.writing.proofs.Lines.{Lining, lining-first, lining-room, lining-next, lining-done}
 use Rattle.writing.proofs.put_line.Statement.{statement}
 use Rattle.writing.proofs.put_line.Tie as tie
 

@@ -1,9 +1,8 @@
-use borrow.Author.Needs.{needs}
 -- `writing::put_lines` meets its contract: each turn puts one line of the flat numbers. Assumes nothing.
+use borrow.Author.Needs.{needs}
 use Prim.Native.Nat.{_-_}
 use native.Mathlib.Omega.{arith}
-use Rattle.writing.specs.Steps.{Ruling}
-use Rattle.writing.proofs.Lines.{ruling-first, ruling-there, ruling-room, ruling-next, ruling-done}
+use Rattle.writing.proofs.Lines.{Ruling, ruling-first, ruling-there, ruling-room, ruling-next, ruling-done}
 use Rattle.writing.proofs.put_lines.Statement.{statement}
 use Rattle.writing.proofs.put_lines.Tie as tie
 

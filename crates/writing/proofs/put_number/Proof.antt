@@ -9,7 +9,7 @@ in-scratch-requires : tie.Need-in-scratch-requires
 in-scratch-requires c κs = search needs
 
 copy-requires : tie.Need-copy-requires
-copy-requires c κs = (c .before .in-scratch .ensures .within, ended-room (c .before .in-scratch .ensures) _ (c .before .before .before .args .out .now) _ (c .before .before .before .pre))
+copy-requires c κs = ended-room (c .before .in-scratch .ensures) _ _ _ (c .before .before .before .pre)
 
 slice-write-out : tie.Need-slice-write-out
 slice-write-out c =

@@ -1,6 +1,4 @@
 -- `writing::section_behind` meets its contract: the count with its LF, and then the numbers behind it. Assumes nothing.
-use mathlib.Core.List.{[], _∷_}
-use Rattle.writing.specs.Steps.{needed, Reaches}
 use Rattle.writing.proofs.Lines.{section-reaches, section-no-room}
 use borrow.Author.Needs.{needs}
 use Rattle.writing.proofs.section_behind.Statement.{statement}

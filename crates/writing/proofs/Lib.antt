@@ -5,3 +5,4 @@ pub mod Answers
 pub mod Lines
 pub mod House
 pub mod Back
+pub mod Within

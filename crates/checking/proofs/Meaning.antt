@@ -1,4 +1,4 @@
--- What the checker's answer means: the theorems of the rules over the contract of `check_list` and `check_records`. Assumes nothing.
+-- What the checker's answer means: the theorems of the rules over the contract of `check_list`, and so of the entry over records. Assumes nothing.
 use mathlib.Core.Path.{_≡_, refl, sym, _∙_}
 use mathlib.Core.Logic.{_↔_}
 use mathlib.Core.Option.{none}

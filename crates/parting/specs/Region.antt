@@ -51,14 +51,28 @@ OrderedTo line l n = (p q : ℕ) → p < q → q < n → line (getD l p 0) ≤ l
 abbrev pub nearLine : List ℕ → ℕ → ℕ → ℕ
 nearLine s way v = near (wayOf way) (boxAt s v)
 
-pub record Unsettled (s : List ℕ) (way : ℕ) (l : List ℕ) (i : ℕ) : Type 0 where
+-- a region, one way, and a gap
+pub record Gapped (s : List ℕ) (way gap : ℕ) (l : List ℕ) : Type 0 where
   pub region : Region s way l
-  pub within : i < length l
-  pub ordered : OrderedTo (nearLine s way) l i
+  pub some : 0 < gap
 
-pub record Settled (s : List ℕ) (way : ℕ) (was now : List ℕ) (n : ℕ) : Type 0 where
+-- the box at i is to go down; at gap 1 those before it stand in order
+pub record Unsettled (s : List ℕ) (way gap : ℕ) (l : List ℕ) (i : ℕ) : Type 0 where
+  pub gapped : Gapped s way gap l
+  pub within : i < length l
+  pub ordered : gap ≡ 1 → OrderedTo (nearLine s way) l i
+
+pub record Settled (s : List ℕ) (way gap : ℕ) (was now : List ℕ) (n : ℕ) : Type 0 where
   pub same : Same now was
-  pub ordered : OrderedTo (nearLine s way) now n
+  pub ordered : gap ≡ 1 → OrderedTo (nearLine s way) now n
+
+pub record Passed (s : List ℕ) (way gap : ℕ) (was now : List ℕ) : Type 0 where
+  pub same : Same now was
+  pub ordered : gap ≡ 1 → OrderedTo (nearLine s way) now (length now)
+
+-- the answer whether a region stands in order
+pub record Found (s : List ℕ) (way : ℕ) (l : List ℕ) (r : Bool) : Type 0 where
+  pub ordered : r ≡ true → OrderedTo (nearLine s way) l (length l)
 
 pub record Sorted (s : List ℕ) (way : ℕ) (was now : List ℕ) : Type 0 where
   pub same : Same now was

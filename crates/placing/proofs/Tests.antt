@@ -1,21 +1,22 @@
 -- The tests of one entry as the code asks them. Assumes nothing.
 use mathlib.Core.Path.{_≡_, refl, sym, ap, _∙_}
 use mathlib.Core.Bool.{Bool, not, _&&_, _||_, true, false}
-use mathlib.Core.List.{List}
-use Prim.Native.Nat.{ℕ, _+_, _-_, _≤_, _<_}
+use mathlib.Core.List.{List, []}
+use Prim.Native.Nat.{ℕ, zero, suc, _+_, _-_, _≤_, _<_}
 use native.Mathlib.Omega.{arith}
 use native.Mathlib.Decide.{decLe}
+use lib.ListN.{length}
 use lib.Dec.{eqb, leb, ltb}
-use borrow.Author.Tests.{le-leb, lt-leb, lt-ltb, le-ltb, eq-eqb, ne-eqb}
+use borrow.Author.Tests.{eqb-false, ltb-false, le-leb, lt-leb, lt-ltb, le-ltb, eq-eqb, ne-eqb}
 use Rattle.rules.specs.Placed.{ofType}
 use Rattle.rules.specs.Numbers.{PieceType, Entry, noType}
 use Rattle.rules.specs.Checker.{notAType, offSheet}
-use Rattle.rules.proofs.Bools.{not-true, not-false}
+use Rattle.rules.proofs.Bools.{not-true, not-false, or-false}
 use Rattle.shapes.specs.Handed.{typeOf, numbersOf, entryOf}
 use Rattle.shapes.specs.declared.Job.{Job}
 use Rattle.shapes.specs.declared.PieceType as declared
 use Rattle.shapes.specs.declared.Placement.{Placement}
-use Rattle.placing.specs.Place.{Fine, TypeOf}
+use Rattle.placing.specs.Place.{Fine, OfJob, TypeOf}
 use Rattle.placing.proofs.Types.{types-count}
 
 -- 6
@@ -51,3 +52,13 @@ module _ (j : Job) (p : Placement) (t : declared.PieceType) (is : TypeOf j (p .k
 
   pub off-across : a ≡ false → {b : Bool} → b ≡ not (leb (p .y + (t .width + j .kerf)) (j .width)) → b ≡ offSheet (numbersOf j) es (entryOf p)
   off-across e across = rw (← length-is, ← width-is, not-false (leb (p .x + (t .length + j .kerf)) (j .length)) (sym along ∙ e)) across
+
+-- an entry that passes test 6 is of a type of the job
+pub of-type : (j : Job) → Fine j → (p : Placement) → notAType (numbersOf j) [] (entryOf p) ≡ false → OfJob j (p .kind)
+of-type j f p e =
+    let q = or-false (eqb (p .kind) 0) (ltb (length (numbersOf j .types)) (p .kind)) e in
+    record { fine = f; low = positive (p .kind) (eqb-false (p .kind) 0 (q .0)); high = omega (arith, ltb-false (length (numbersOf j .types)) (p .kind) (q .1), types-count j f) }
+  where
+    positive : (k : ℕ) → ¬ (k ≡ 0) → 0 < k
+    positive zero h = absurd (h refl)
+    positive (suc k) h = omega arith

@@ -46,7 +46,7 @@ pub fn type_of(job: Job, kind: u64) -> PieceType
     job.types[at]
 }
 
-fn not_a_type(types: u64, kind: u64) -> bool
+pub fn not_a_type(types: u64, kind: u64) -> bool
     ensures { λ r. ⌜ r ≡ (eqb kind 0 || ltb types kind) ⌝ }
 {
     if kind == 0 {
@@ -83,7 +83,7 @@ fn beyond(at: u64, size: u64, line: u64) -> bool
     line - size < at
 }
 
-fn off_sheet(job: Job, p: Placement) -> bool
+pub fn off_sheet(job: Job, p: Placement) -> bool
     requires { ⌜ OfJob job (p .kind) ⌝ }
     ensures { λ r. ⌜ HoldsOf (offSheet (numbersOf job)) p r ⌝ }
 {

@@ -1,7 +1,8 @@
 // Outlines by value: a length along the sheet, a width across it, and a count of each type.
 // Whoever joins, compares or stores builds calls this crate. The two joins are methods that hand back the joined outline,
 // and lengths and widths are types of their own, so that no join can add a width to a length.
-use shapes::{Job, TYPES_MOST};
+use shapes::Job;
+use shapes::TYPES_MOST;
 ghost use mathlib.Core.Path.{_≡_};
 ghost use Prim.Native.Nat.{ℕ, _+_, _%_, _<_, max};
 ghost use Rattle.rules.specs.Job.{horizontal, vertical};

@@ -99,6 +99,9 @@ module _ (job : Job) (r : JobInRange job) where
   pub types-count : types (jobFor job) ≡ job .count
   types-count = length-map (numbersOf job .types) (λ p. p .demand) ∙ count-types
 
+  pub length-profits : length (jobFor job .profits) ≡ job .count
+  length-profits = length-map (numbersOf job .types) (λ p. p .profit) ∙ count-types
+
   module _ (i : ℕ) (h : i < job .count) where
     pub type-at : getD (numbersOf job .types) i noType ≡ typeOf (getD (job .types) i noPiece)
     type-at = getD-take (job .count) (map typeOf (job .types)) i noType h ∙ List·getD-map typeOf (job .types) i noPiece

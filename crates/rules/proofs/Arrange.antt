@@ -11,7 +11,7 @@ use lib.Seq.{take-at, drop-at}
 use Rattle.rules.specs.Limits.{placementNumbers}
 use Rattle.rules.specs.Bag.{tick, sum, count, All, nil, cons, Same}
 use Rattle.rules.specs.Job.{Piece, Outline, Build, pieces}
-use Rattle.rules.specs.Placed.{Placed, Of, InOutline, countsOf, ofType, Accepted}
+use Rattle.rules.specs.Placed.{Placed, put, Of, InOutline, countsOf, ofType, Accepted}
 use Rattle.rules.specs.Numbers.{Numbers, PieceType, noType, grown, singlesFrom, jobOf, Entry, entries, placed, lying}
 use Rattle.rules.specs.Planner.{NotBehind, InOrder, none, last, next, PlanFor, numbersFor, Written}
 use Rattle.rules.proofs.Bags.{all-at, all-map, same-map}
@@ -44,10 +44,7 @@ placed-entry n p m =
     let z : 1 + f .0 ≡ suc (f .0) = omega arith in
     let s : record { type = p .type; long = p .box .long; wide = p .box .wide } ≡ grown (n .kerf) (suc (f .0)) (getD (n .types) (f .0) noType) = f .1 ∙ (λ j. grown (n .kerf) (z j) (getD (n .types) (f .0) noType)) in
     let t : p .type ≡ suc (f .0) = ap (λ (q : Piece). q .type) s in
-    let g : ofType noType (n .types) (p .type) ≡ getD (n .types) (f .0) noType = ap (ofType noType (n .types)) t in
-    let a : ofType noType (n .types) (p .type) .long + n .kerf ≡ p .box .long = ap (λ (q : PieceType). q .long + n .kerf) g ∙ sym (ap (λ (q : Piece). q .long) s) in
-    let b : ofType noType (n .types) (p .type) .wide + n .kerf ≡ p .box .wide = ap (λ (q : PieceType). q .wide + n .kerf) g ∙ sym (ap (λ (q : Piece). q .wide) s) in
-    λ i. record { type = p .type; box = record { x = p .box .x; y = p .box .y; long = a i; wide = b i } }
+    ap (λ q. put q (p .box .x) (p .box .y)) (ap (λ t. grown (n .kerf) t (ofType noType (n .types) t)) t ∙ sym s)
 
 pub lying-entries : (n : Numbers) {ps : List Placed} → All (Of (jobOf n)) ps → lying n (map entryOf ps) ≡ ps
 lying-entries n nil = refl

@@ -1,7 +1,7 @@
 -- The order of outlines: the best is unique, and exists where there is a build. No accepted list earns more. Assumes nothing.
 use mathlib.Core.Path.{_≡_, refl, ap, _∙_}
 use mathlib.Core.Logic.{_⊎_, inl, inr}
-use mathlib.Core.List.{List, [], _∷_, List·Memᴰ, List·Memᴰ·head, List·Memᴰ·tail, head-eq-of-cons-eq, tail-eq-of-cons-eq}
+use mathlib.Core.List.{List, [], _∷_, List·Memᴰ, List·Memᴰ·head, List·Memᴰ·tail}
 use Prim.Native.Nat.{ℕ, _≤_, _<_}
 use native.Mathlib.Omega.{arith}
 use native.Mathlib.Decide.{decLt}
@@ -28,8 +28,10 @@ not-after-both (x ∷ xs) (y ∷ ys) h k = rest (not-after-both xs ys) h k
 
 outline-path : (o u : Outline) → tieOrder o ≡ tieOrder u → o ≡ u
 outline-path o u e =
-    let t = tail-eq-of-cons-eq e in
-    λ i. record { long = head-eq-of-cons-eq e i; wide = head-eq-of-cons-eq t i; counts = tail-eq-of-cons-eq t i }
+    let l : o .long ≡ u .long = cc in
+    let w : o .wide ≡ u .wide = cc in
+    let c : o .counts ≡ u .counts = cc in
+    λ i. record { long = l i; wide = w i; counts = c i }
 
 good-both : (j : Job) (o u : Outline) → AtLeastAsGood j o u → AtLeastAsGood j u o → o ≡ u
 good-both j o u (inl p) (inl q) = absurd (omega arith)

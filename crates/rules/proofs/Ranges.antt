@@ -107,8 +107,11 @@ length-take-all zero ps h = refl
 length-take-all (suc n) [] h = absurd (omega arith)
 length-take-all (suc n) (p ∷ ps) h = ap suc (length-take-all n ps (omega arith))
 
+pub handed-length : (l w k n : ℕ) (ps : List PieceType) → n ≤ length ps → length (handedOver l w k n ps) ≡ 5 + 4 * n
+handed-length l w k n ps h = omega (arith, length-items (take n ps), length-take-all n ps h)
+
 pub handed-whole : (l w k n : ℕ) (ps : List PieceType) → n ≤ length ps → Whole (handedOver l w k n ps)
-handed-whole l w k n ps h = record { items = omega (arith, length-items (take n ps), length-take-all n ps h) }
+handed-whole l w k n ps h = record { items = omega (arith, handed-length l w k n ps h) }
 
 types-back : (n : ℕ) (ps : List PieceType) → n ≤ length ps → typesFrom n (typeItems (take n ps)) ≡ take n ps
 types-back zero ps h = refl
@@ -121,3 +124,10 @@ handed-numbers l w k n ps h = λ i. record { long = l; wide = w; kerf = k; types
 -- types past the count are not read
 pub handed-read : (l w k n : ℕ) (ps qs : List PieceType) → take n ps ≡ take n qs → handedOver l w k n ps ≡ handedOver l w k n qs
 handed-read l w k n ps qs e = ap (λ rs. 1 ∷ l ∷ w ∷ k ∷ n ∷ typeItems rs) e
+
+-- one step of the search for the first item out of range
+pub item-in : (i : ℕ) (r : Range) (rs : List Range) (v : ℕ) (vs : List ℕ) → (leb (r .low) v && leb v (r .high)) ≡ true → firstOut i (r ∷ rs) (v ∷ vs) ≡ firstOut (suc i) rs vs
+item-in i r rs v vs e = rw (e, firstOut)
+
+pub item-out : (i : ℕ) (r : Range) (rs : List Range) (v : ℕ) (vs : List ℕ) → (leb (r .low) v && leb v (r .high)) ≡ false → firstOut i (r ∷ rs) (v ∷ vs) ≡ some i
+item-out i r rs v vs e = rw (e, firstOut)

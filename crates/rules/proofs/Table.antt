@@ -1,10 +1,10 @@
--- The marked examples of "Tables on both sides of each line": a test of a row that antt computes, that a row that passes holds, and the twelve rows. Assumes nothing.
+-- The marked examples hold: a test of a row that antt computes, and that a row that passes holds. Assumes nothing.
 use mathlib.Core.Path.{_≡_, refl, sym, ap, _∙_, subst}
 use mathlib.Core.Bool.{Bool, true, false, not, _&&_, _||_, true≢false}
 use mathlib.Core.Logic.{_⊎_, inl, inr}
 use mathlib.Core.Option.{Option, none, some}
-use mathlib.Core.List.{List, [], _∷_, _++_}
-use Prim.Native.Nat.{ℕ, _≤_}
+use mathlib.Core.List.{List, [], _∷_}
+use Prim.Native.Nat.{ℕ}
 use native.Mathlib.Omega.{arith}
 use lib.ListN.{length}
 use lib.Dec.{eqb, ltb}
@@ -13,38 +13,17 @@ use Rattle.rules.specs.Bag.{All}
 use Rattle.rules.specs.Job.{Piece, Job, Outline, profit, pieces, tieOrder, AtLeastAsGood, NotAfter, Best, alone}
 use Rattle.rules.specs.Numbers.{jobOf, entries}
 use Rattle.rules.specs.Items.{outOfRange, numbersFrom}
-use Rattle.rules.specs.Checker.{CheckAnswer, refused, Checked}
-use Rattle.rules.specs.Planner.{PlanAnswer, noPlan, FitsAlone, Planned, none-fits, done}
+use Rattle.rules.specs.Checker.{CheckAnswer, Checked}
+use Rattle.rules.specs.Planner.{FitsAlone, Planned, none-fits, done}
 use Rattle.rules.specs.Text.{jobText}
-use Rattle.rules.specs.Answers.{Ranged, within, no-text, refusedPlan, PlanText, CheckNumbers}
+use Rattle.rules.specs.Answers.{within, no-text}
+use Rattle.rules.specs.Table.{Row, plan, no-fit, check, text, Holds, rows}
 use Rattle.rules.proofs.Bools.{and-both, or-cases, every, every-all}
 use Rattle.rules.proofs.Bags.{all-at, all-map}
 use Rattle.rules.proofs.Outlines.{outlines, outlines-enumerate, isOutline, is-outline, fits, true-fits}
 use Rattle.rules.proofs.Checking.{checked, checked-is}
 use Rattle.rules.proofs.Accept.{job-typed}
 use Rattle.rules.proofs.Reading.{Read, ok, stop, read, leaves}
-
--- a row: an input, and what the paper gives for it
-pub data Row : Type 0 where
-  -- the items of a job; its best outline, the profit and N
-  plan : List ℕ → Outline → ℕ → ℕ → Row
-  -- the items of a job
-  no-fit : List ℕ → Row
-  -- the items of a job, a list of flat numbers, the checker's answer
-  check : List ℕ → List ℕ → CheckAnswer → Row
-  -- a text and the place where it leaves the grammar
-  text : List ℕ → ℕ → Row
-
--- the planner's answer to the items of a job, with so much room and so many slots
-abbrev Answers : ℕ → ℕ → List ℕ → PlanAnswer → Type 0
-Answers room slots = Ranged noPlan (λ vs. Planned (jobOf (numbersFrom vs)) room slots)
-
--- what a row says. A plan is answered wherever there is room for N records and slots for its pieces.
-abbrev pub Holds : Row → Type 0
-Holds (plan vs o p n) = (room slots : ℕ) → n ≤ room → pieces o ≤ slots → Answers room slots vs (record { number = 0; place = 0; profit = p; long = o .long; wide = o .wide; pieces = pieces o; outlines = n })
-Holds (no-fit vs) = (room slots : ℕ) → Answers room slots vs (noPlan 3 0)
-Holds (check vs flat a) = CheckNumbers flat vs a
-Holds (text t k) = (arena buffer : List ℕ) → PlanText arena buffer t (refusedPlan arena buffer 1 k)
 
 -- the order of outlines as a test
 abbrev notAfter : List ℕ → List ℕ → Bool
@@ -146,46 +125,6 @@ passes-holds (text t k) e = λ arena buffer. no-text (leaves jobText t k (stops-
 
 pub table-holds : (rs : List Row) → every passes rs ≡ true → All Holds rs
 table-holds rs e = all-map passes-holds (every-all passes rs e)
-
--- Short forms for the rows. One sheet `L W k`; its piece lines `l w p b`, of which there are n.
-abbrev sheet : ℕ → ℕ → ℕ → ℕ → List ℕ → List ℕ
-sheet l w k n pieceLines = 1 ∷ l ∷ w ∷ k ∷ n ∷ pieceLines
-
-abbrev piece : ℕ → ℕ → ℕ → ℕ → List ℕ
-piece l w p b = l ∷ w ∷ p ∷ b ∷ []
-
-abbrev at : ℕ → ℕ → ℕ → List ℕ
-at type x y = type ∷ x ∷ y ∷ []
-
-abbrev outline : ℕ → ℕ → List ℕ → Outline
-outline l w c = record { long = l; wide = w; counts = c }
-
-abbrev accepted : ℕ → ℕ → CheckAnswer
-accepted p m = record { number = 0; place = 0; profit = p; pieces = m }
-
--- "The job above"
-abbrev ten : List ℕ
-ten = sheet 10 6 0 1 (piece 5 3 15 4)
-
--- "Pinwheel"
-abbrev wheel : List ℕ
-wheel = sheet 3 3 0 3 (piece 2 1 2 2 ++ piece 1 2 2 2 ++ piece 1 1 1 1)
-
-abbrev pub rows : List Row
-rows =
-    plan ten (outline 10 6 (4 ∷ [])) 60 5
-    ∷ plan (sheet 10 6 0 1 (piece 10 6 60 1)) (outline 10 6 (1 ∷ [])) 60 1
-    ∷ no-fit (sheet 10 6 1 1 (piece 10 6 60 1))
-    ∷ plan (sheet 4 1 0 2 (piece 2 1 5 1 ++ piece 2 1 3 1)) (outline 4 1 (1 ∷ 1 ∷ [])) 8 3
-    ∷ check ten (at 1 0 0 ++ at 1 5 0) (accepted 30 2)
-    ∷ check ten (at 1 0 0 ++ at 1 4 0) (refused 9 1)
-    ∷ check ten (at 1 6 0) (refused 7 0)
-    ∷ check ten (at 1 0 0 ++ at 1 0 0 ++ at 1 0 0 ++ at 1 0 0 ++ at 1 0 0) (refused 8 4)
-    ∷ check wheel (at 1 0 0 ++ at 2 2 0 ++ at 1 1 2 ++ at 2 0 1 ++ at 3 1 1) (refused 10 0)
-    ∷ check wheel (at 2 2 0 ++ at 1 1 2 ++ at 2 0 1 ++ at 3 1 1) (accepted 7 4)
-    ∷ text [] 0
-    ∷ text (48 ∷ 49 ∷ []) 1
-    ∷ []
 
 -- the marked examples hold of the definitions
 pub examples : All Holds rows

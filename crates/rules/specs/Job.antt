@@ -73,10 +73,6 @@ building j = record { Start = λ o. List·Memᴰ o (map (alone j) (j .singles));
 abbrev pub Build : Job → Outline → Type 0
 Build j = Made (building j)
 
--- a list of all outlines, each once: "N is the number of different outlines of the job", its length
-abbrev pub AllOutlines : Job → List Outline → Type 0
-AllOutlines j l = Enumerates (Build j) l
-
 -- 4. "Profit is the sum over its pieces."
 abbrev pub dot : List ℕ → List ℕ → ℕ
 dot [] ps = 0
@@ -88,6 +84,10 @@ profit j o = dot (o .counts) (j .profits)
 
 abbrev pub pieces : Outline → ℕ
 pieces o = sum (o .counts)
+
+-- a list of all outlines, each once: "N is the number of different outlines of the job", its length
+abbrev pub AllOutlines : Job → List Outline → Type 0
+AllOutlines j l = Enumerates (Build j) l
 
 -- equal, or first in lexicographic order, smaller first
 abbrev pub NotAfter : List ℕ → List ℕ → Type 0

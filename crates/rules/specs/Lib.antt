@@ -15,3 +15,4 @@ pub mod Text
 pub mod Printed
 pub mod Answers
 pub mod Promise
+pub mod Table

@@ -30,6 +30,9 @@ pub const INPUT_MOST: usize = 32_768;
 
 pub const PROGRAM_RECORDS: usize = 2_000;
 
+// The flat numbers of the longest plan.
+pub const PLAN_NUMBERS: usize = PIECES_MOST * PLACEMENT_NUMBERS;
+
 // A piece type: a line `l w p b`.
 pub struct PieceType {
     pub length: u64,

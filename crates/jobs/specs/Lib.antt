@@ -1,0 +1,2 @@
+-- What the check of a job's numbers answers.
+pub mod Item

@@ -1,0 +1,8 @@
+-- Laws for the proofs of this crate.
+pub mod Digits
+pub mod Follow
+pub mod Walks
+pub mod Lines
+pub mod Types
+pub mod Parts
+pub mod Flat

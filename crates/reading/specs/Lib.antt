@@ -1,0 +1,6 @@
+-- What the reader answers.
+pub mod Number
+pub mod Walked
+pub mod Pieces
+pub mod Sections
+pub mod Placements

@@ -1,0 +1,6 @@
+-- Laws for the proofs of this crate.
+pub mod Ends
+pub mod Judged
+pub mod JobTexts
+pub mod Copied
+pub mod PlanTexts

@@ -1,0 +1,2 @@
+-- What the steps of the planner answer and leave.
+pub mod Plans

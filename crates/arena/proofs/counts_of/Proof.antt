@@ -1,3 +1,4 @@
+-- `arena::counts_of` meets its contract. The invariant: below i the bytes are copied. Assumes nothing.
 use Prim.Native.Nat.{ℕ, _+_, _-_, _*_, _≤_, _<_}
 use native.Mathlib.Omega.{arith}
 use mathlib.Core.Path.{_≡_, refl, sym, ap, _∙_}

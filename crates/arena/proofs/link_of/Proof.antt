@@ -1,3 +1,4 @@
+-- `arena::link_of` meets its contract. Assumes nothing.
 use mathlib.Core.Path.{sym, ap, _∙_}
 use Rattle.arena.specs.declared.How.the-variants.{Joined}
 use Rattle.arena.specs.Bytes.{linkOf}

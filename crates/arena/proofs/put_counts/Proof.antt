@@ -1,3 +1,4 @@
+-- `arena::put_counts` meets its contract. The invariant: below i the counts stand. Assumes nothing.
 use Prim.Native.Nat.{ℕ, _+_, _-_, _*_, _≤_, _<_}
 use native.Mathlib.Omega.{arith}
 use mathlib.Core.Path.{_≡_, refl, sym, ap, _∙_}

@@ -1,3 +1,4 @@
+-- `outline::demands_kept` meets its contract. The invariant: below i no count is above its demand. Assumes nothing.
 use Prim.Native.Nat.{ℕ, _+_, _-_, _%_, _≤_, _<_}
 use native.Mathlib.Omega.{arith}
 use mathlib.Core.Path.{_≡_, refl, sym, ap, _∙_}

@@ -1,3 +1,4 @@
+-- `outlines::add_join` meets its contract. Assumes nothing.
 use Rattle.arena.specs.declared.How.the-variants.{Joined}
 use Prim.Native.Nat.{ℕ, _+_, _-_, _≤_, _<_}
 use native.Mathlib.Omega.{arith}

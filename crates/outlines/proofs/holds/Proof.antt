@@ -1,3 +1,4 @@
+-- `outlines::holds` meets its contract. The invariant: none of the first i records has the outline. Assumes nothing.
 use Prim.Native.Nat.{ℕ, _+_, _-_, _≤_, _<_}
 use native.Mathlib.Omega.{arith}
 use mathlib.Core.Path.{_≡_, refl, sym, ap, _∙_}
@@ -30,7 +31,7 @@ returns : tie.Need-returns Inv-loop μ-loop
 returns c =
     let sm = c .before in
     let lo = sm .before .before .loop in
-    record { yes-if = λ e. found-at _ _ _ _ (lo .i) (omega arith) (sym (sm .same-at .ensures) ∙ c .if1 .taken); no-if = λ e. absurd (true≢false e) }
+    record { yes-if = λ e. found-at _ _ _ _ (lo .i) (omega arith) (rw (← sm .same-at .ensures) (c .if1 .taken)); no-if = λ e. absurd (true≢false e) }
 
 loop-less : tie.Need-loop-less Inv-loop μ-loop
 loop-less c = search needs
@@ -39,7 +40,7 @@ loop-again : tie.Need-loop-again Inv-loop μ-loop
 loop-again c =
     let sm = c .before in
     let lo = sm .before .before .loop in
-    (omega arith, below-more _ _ (lo .inv .1) (sym (sm .same-at .ensures) ∙ c .if1 .left))
+    (omega arith, below-more _ _ (lo .inv .1) (rw (← sm .same-at .ensures) (c .if1 .left)))
 
 returns-2 : tie.Need-returns-2 Inv-loop μ-loop
 returns-2 c =

@@ -1,3 +1,4 @@
+-- `outlines::list_joins` meets its contract. The invariant: each record before i is joined with all up to itself. Assumes nothing.
 use Prim.Native.Nat.{ℕ, _+_, _-_, _≤_, _<_}
 use native.Mathlib.Omega.{arith}
 use mathlib.Core.Path.{_≡_, refl, sym, ap, _∙_}

@@ -1,3 +1,4 @@
+-- `outlines::list_outlines` meets its contract: the singles, and then the joins. Assumes nothing.
 use Rattle.outlines.proofs.Laws.{lists-then}
 use borrow.Author.Needs.{needs}
 use Rattle.outlines.proofs.list_outlines.Statement.{statement}

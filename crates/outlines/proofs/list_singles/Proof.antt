@@ -1,3 +1,4 @@
+-- `outlines::list_singles` meets its contract. The invariant: the types before t are listed. Assumes nothing.
 use Prim.Native.Nat.{ℕ, _+_, _-_, _≤_, _<_}
 use native.Mathlib.Omega.{arith}
 use mathlib.Core.Path.{_≡_, refl, sym, ap, _∙_}

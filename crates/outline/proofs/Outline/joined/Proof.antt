@@ -1,3 +1,4 @@
+-- `outline::Outline::joined` meets its contract: by the way. Assumes nothing.
 use borrow.Author.Needs.{needs}
 use Rattle.outline.proofs.Outline.joined.Statement.{statement}
 use Rattle.outline.proofs.Outline.joined.Tie as tie

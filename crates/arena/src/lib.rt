@@ -122,8 +122,9 @@ fn counts_of(s: &[u8]) -> [u8; TYPES_MOST]
 pub fn zero(s: &mut [u8])
     ensures { λ _. ⌜ now (s .exit) ≡ replicate (length (now (s .entry))) 0 ⌝ }
 {
+    let end = s.len();
     let mut i = 0;
-    while i < s.len() {
+    while i < end {
         s[i] = 0;
         i += 1;
     }

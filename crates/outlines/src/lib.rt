@@ -18,13 +18,13 @@ pub enum Listed {
     Full,
 }
 
-// The outline is one of the first n records'.
-fn holds(arena: &[u8], n: usize, o: Outline, types: usize) -> bool
-    requires { ⌜ (n ≤ roomOf (length (now arena))) × (types ≤ typesMost) ⌝ }
-    ensures { λ r. ⌜ Told (Holds types (now (arena .entry)) n (outlineOf types o)) r ⌝ }
+// The outline is one of the first `count` records'.
+fn holds(arena: &[u8], count: usize, o: Outline, types: usize) -> bool
+    requires { ⌜ (count ≤ roomOf (length (now arena))) × (types ≤ typesMost) ⌝ }
+    ensures { λ r. ⌜ Told (Holds types (now (arena .entry)) count (outlineOf types o)) r ⌝ }
 {
     let mut i = 0;
-    while i < n {
+    while i < count {
         let at = i;
         i += 1;
         if arena::same_at(arena, at, o, types) {

@@ -12,10 +12,10 @@ use Rattle.arena.proofs.zero.Statement.{statement}
 use Rattle.arena.proofs.zero.Tie as tie
 
 abbrev Inv-loop : tie.InvT-loop
-Inv-loop s₀ i₀ s i = (i ≤ length s₀) × (length s ≡ length s₀) × (s ≡ replicate i 0 ++ drop i s₀)
+Inv-loop s₀ end i₀ s i = (i ≤ end) × (length s ≡ length s₀) × (s ≡ replicate i 0 ++ drop i s₀)
 
 abbrev μ-loop : tie.MeasureT-loop
-μ-loop s₀ i₀ s i = length s₀ - i
+μ-loop s₀ end i₀ s i = end - i
 
 loop-holds : tie.Need-loop-holds Inv-loop μ-loop
 loop-holds c = search needs

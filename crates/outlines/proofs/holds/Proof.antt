@@ -13,10 +13,10 @@ use Rattle.outlines.proofs.holds.Statement.{statement}
 use Rattle.outlines.proofs.holds.Tie as tie
 
 abbrev Inv-loop : tie.InvT-loop
-Inv-loop arena n o types i₀ i = (i ≤ n) × ((k : ℕ) → k < i → sameOutline (outlineOf types o) (outlineOf types (recordAt arena k .outline)) ≡ false)
+Inv-loop arena count o types i₀ i = (i ≤ count) × ((k : ℕ) → k < i → sameOutline (outlineOf types o) (outlineOf types (recordAt arena k .outline)) ≡ false)
 
 abbrev μ-loop : tie.MeasureT-loop
-μ-loop arena n o types i₀ i = n - i
+μ-loop arena count o types i₀ i = count - i
 
 loop-holds : tie.Need-loop-holds Inv-loop μ-loop
 loop-holds c = (omega arith, λ k h. absurd (omega arith))

@@ -17,32 +17,18 @@ use Rattle.rules.proofs.Ranges.{kept as in-ranges, this, those}
 use Rattle.shapes.specs.Answer.{numberOf, placeOf}
 use Rattle.shapes.specs.Handed.{itemsOf}
 use Rattle.shapes.specs.declared.Refusal.{Refusal}
-use Rattle.shapes.specs.declared.Refusal.the-variants.{NotInGrammar, OutOfRange, NothingFits, ArenaFull, BufferShort, NotAType, OffSheet, AboveDemand, Overlaps, NotParted, InputTooLong}
 use Rattle.shapes.specs.declared.Job.{Job}
 use Rattle.reading.specs.Placements.{numbersOfPlacements}
 use Rattle.texts.specs.declared.Told.the-variants.{Refused}
 use Rattle.texts.specs.declared.PlanText.{PlanText}
 use Rattle.texts.specs.Told.{toldNumber, toldPlace}
 use Rattle.texts.specs.Plan.{PlanTextLeft, planLeft, PlanOf, kept, short, PlanRead}
+use Rattle.texts.proofs.Refusals.{some-number}
 use Rattle.texts.proofs.Judged.{out-early, count-out}
 use Rattle.texts.proofs.Behind.{numbers-behind, placements-behind}
 
 none-some : {A : Type 0} {i : ℕ} → _≡_ {A = Option ℕ} none (some i) → A
 none-some e = absurd (let z : _≡_ {A = ℕ} 0 1 = cc in omega arith)
-
--- every refusal has a number
-pub some-number : (r : Refusal) → numberOf r ≢ 0
-some-number (NotInGrammar p) e = omega arith
-some-number (OutOfRange i) e = omega arith
-some-number NothingFits e = omega arith
-some-number ArenaFull e = omega arith
-some-number BufferShort e = omega arith
-some-number (NotAType p) e = omega arith
-some-number (OffSheet p) e = omega arith
-some-number (AboveDemand p) e = omega arith
-some-number (Overlaps p) e = omega arith
-some-number NotParted e = omega arith
-some-number InputTooLong e = omega arith
 
 -- where all items are in range, those of the job are
 job-fine : (job : Job) (ws : List ℕ) → outOfRange (itemsOf job ++ ws) ≡ none → outOfRange (itemsOf job) ≡ none

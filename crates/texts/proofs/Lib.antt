@@ -6,3 +6,4 @@ pub mod Copied
 pub mod PlanTexts
 pub mod Once
 pub mod Behind
+pub mod Refusals

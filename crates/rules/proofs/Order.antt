@@ -76,17 +76,17 @@ not-after-trans (x ∷ xs) (y ∷ ys) (z ∷ zs) h k = go (not-after-trans xs ys
     go r (inr p) (inl q) = inl (omega (arith, p .0))
     go r (inr p) (inr q) = inr (p .0 ∙ q .0, r (p .1) (q .1))
 
-good-trans : (j : Job) (o u w : Outline) → AtLeastAsGood j o u → AtLeastAsGood j u w → AtLeastAsGood j o w
+pub good-trans : (j : Job) (o u w : Outline) → AtLeastAsGood j o u → AtLeastAsGood j u w → AtLeastAsGood j o w
 good-trans j o u w (inl p) (inl q) = inl (omega arith)
 good-trans j o u w (inl p) (inr q) = inl (omega (arith, q .0))
 good-trans j o u w (inr p) (inl q) = inl (omega (arith, p .0))
 good-trans j o u w (inr p) (inr q) = inr (q .0 ∙ p .0, not-after-trans (tieOrder o) (tieOrder u) (tieOrder w) (p .1) (q .1))
 
-not-after-refl : (a : List ℕ) → NotAfter a a
+pub not-after-refl : (a : List ℕ) → NotAfter a a
 not-after-refl [] = tt
 not-after-refl (x ∷ xs) = inr (refl, not-after-refl xs)
 
-good-refl : (j : Job) (o : Outline) → AtLeastAsGood j o o
+pub good-refl : (j : Job) (o : Outline) → AtLeastAsGood j o o
 good-refl j o = inr (refl, not-after-refl (tieOrder o))
 
 -- the best of a list that is not empty

@@ -98,7 +98,7 @@ pub positive : {n : Numbers} → InRange n → All Positive (jobOf n .singles)
 positive {n} r = positive-from (n .kerf) 1 (r .types)
 
 -- a job handed over: its types up to the count are read, and no others
-length-items : (ps : List PieceType) → length (typeItems ps) ≡ 4 * length ps
+pub length-items : (ps : List PieceType) → length (typeItems ps) ≡ 4 * length ps
 length-items [] = refl
 length-items (p ∷ ps) = omega (arith, length-items ps)
 
@@ -107,8 +107,11 @@ length-take-all zero ps h = refl
 length-take-all (suc n) [] h = absurd (omega arith)
 length-take-all (suc n) (p ∷ ps) h = ap suc (length-take-all n ps (omega arith))
 
+pub handed-length : (l w k n : ℕ) (ps : List PieceType) → n ≤ length ps → length (handedOver l w k n ps) ≡ 5 + 4 * n
+handed-length l w k n ps h = omega (arith, length-items (take n ps), length-take-all n ps h)
+
 pub handed-whole : (l w k n : ℕ) (ps : List PieceType) → n ≤ length ps → Whole (handedOver l w k n ps)
-handed-whole l w k n ps h = record { items = omega (arith, length-items (take n ps), length-take-all n ps h) }
+handed-whole l w k n ps h = record { items = omega (arith, handed-length l w k n ps h) }
 
 types-back : (n : ℕ) (ps : List PieceType) → n ≤ length ps → typesFrom n (typeItems (take n ps)) ≡ take n ps
 types-back zero ps h = refl

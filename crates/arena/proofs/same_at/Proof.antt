@@ -1,0 +1,38 @@
+-- `arena::same_at` meets its contract. Assumes nothing.
+use Prim.Native.Nat.{_+_, _*_, _-_}
+use native.Mathlib.Omega.{arith}
+use mathlib.Core.Path.{_≡_, refl, sym, ap, _∙_}
+use Rattle.arena.specs.Bytes.{chunk}
+use borrow.Author.Needs.{needs}
+use Rattle.arena.proofs.same_at.Statement.{statement}
+use Rattle.arena.proofs.same_at.Tie as tie
+
+mul-at : tie.Need-mul-at
+mul-at c = search needs
+
+add-end : tie.Need-add-end
+add-end c = search needs
+
+sub-same : tie.Need-sub-same
+sub-same c = search needs
+
+part-same-start : tie.Need-part-same-start
+part-same-start c = search needs
+
+part-same-end : tie.Need-part-same-end
+part-same-end c = search needs
+
+same-requires : tie.Need-same-requires
+same-requires c κs = search needs
+
+returns : tie.Need-returns
+unfolding chunk
+returns c =
+    let i = c .before .before .before .args .i in
+    let e : i * 32 + 32 - i * 32 ≡ 32 = omega arith in
+    c .same .ensures ∙ rw e
+
+pub same-at-spec : {M : Type 1} → statement M
+same-at-spec =
+    tie.close
+    (tie.spec mul-at add-end sub-same part-same-start part-same-end same-requires returns)

@@ -1,0 +1,252 @@
+// Records of 32 bytes in the lent arena: an outline, and how it was made.
+// Whoever lists, chooses or unfolds outlines calls this crate, and speaks of records from here on: the bytes of the arena are nobody else's.
+// Bytes 0 to 11 hold the counts, then two bytes each the length, the width and the two halves, one byte how it was made; the rest is 0 and free.
+use outline::Across;
+use outline::Along;
+use outline::Outline;
+use outline::Way;
+use shapes::RECORD_BYTES;
+use shapes::RECORDS_MOST;
+use shapes::TYPES_MOST;
+ghost use mathlib.Core.Path.{_≡_};
+ghost use Prim.Native.Nat.{ℕ, _+_, _*_, _≤_, _<_, _-_};
+ghost use lib.ListN.{length, take, replicate};
+ghost use Rattle.rules.specs.Limits.{recordBytes, typesMost};
+ghost use Rattle.rules.specs.Planner.{roomOf};
+ghost use Rattle.rules.proofs.Outlines.{sameList, sameOutline};
+ghost use Rattle.outline.specs.Stands.{outlineOf};
+ghost use Rattle.arena.specs.Bytes.{word, putWord, behind, linkOf, howOf, encode, decode, putChunk};
+ghost use Rattle.arena.specs.Records.{recordAt, Storable, Stored, Loaded};
+
+// A piece of a type, numbered from 1, or a join of two records that stand before.
+pub enum How {
+    Piece(usize),
+    Joined(Way, usize, usize),
+}
+
+pub struct Record {
+    pub outline: Outline,
+    pub how: How,
+}
+
+// `How` in numbers: 0 for a piece, 1 for a join beside, 2 for a join above.
+pub struct Link {
+    pub kind: u8,
+    pub first: usize,
+    pub second: usize,
+}
+
+fn link_of(how: How) -> Link
+    ensures { λ r. ⌜ r ≡ linkOf how ⌝ }
+{
+    match how {
+        How::Piece(t) => Link {
+            kind: 0,
+            first: t,
+            second: 0,
+        },
+        How::Joined(way, a, b) => match way {
+            Way::Beside => Link {
+                kind: 1,
+                first: a,
+                second: b,
+            },
+            Way::Above => Link {
+                kind: 2,
+                first: a,
+                second: b,
+            },
+        },
+    }
+}
+
+fn how_of(link: Link) -> How
+    ensures { λ r. ⌜ r ≡ howOf link ⌝ }
+{
+    if link.kind == 0 {
+        return How::Piece(link.first);
+    }
+    if link.kind == 1 {
+        return How::Joined(Way::Beside, link.first, link.second);
+    }
+    How::Joined(Way::Above, link.first, link.second)
+}
+
+fn wide(x: u8) -> u64
+    ensures { λ r. ⌜ (r ≡ x) × (r < 256) ⌝ }
+{
+    x as u64
+}
+
+// Two bytes, the low one first.
+fn get(s: &[u8], at: usize) -> u64
+    requires { ⌜ at + 1 < length (now s) ⌝ }
+    ensures { λ r. ⌜ (r ≡ word (now (s .entry)) at) × (r < 65536) ⌝ }
+{
+    wide(s[at]) + 256 * wide(s[at + 1])
+}
+
+fn put(s: &mut [u8], at: usize, v: u64)
+    requires { ⌜ at + 1 < length (now s) ⌝ }
+    ensures { λ _. ⌜ now (s .exit) ≡ putWord (now (s .entry)) at v ⌝ }
+{
+    s[at] = (v % 256) as u8;
+    s[at + 1] = (v / 256 % 256) as u8;
+}
+
+fn put_counts(s: &mut [u8], counts: [u8; TYPES_MOST])
+    requires { ⌜ length (now s) ≡ typesMost ⌝ }
+    ensures { λ _. ⌜ now (s .exit) ≡ counts ⌝ }
+{
+    let mut i = 0;
+    while i < TYPES_MOST {
+        s[i] = counts[i];
+        i += 1;
+    }
+}
+
+fn counts_of(s: &[u8]) -> [u8; TYPES_MOST]
+    requires { ⌜ length (now s) ≡ recordBytes ⌝ }
+    ensures { λ r. ⌜ r ≡ take typesMost (now (s .entry)) ⌝ }
+{
+    let mut r = [0u8; TYPES_MOST];
+    let mut i = 0;
+    while i < TYPES_MOST {
+        r[i] = s[i];
+        i += 1;
+    }
+    r
+}
+
+// '"Zeros" means every byte lent.'
+pub fn zero(s: &mut [u8])
+    ensures { λ _. ⌜ now (s .exit) ≡ replicate (length (now (s .entry))) 0 ⌝ }
+{
+    let end = s.len();
+    let mut i = 0;
+    while i < end {
+        s[i] = 0;
+        i += 1;
+    }
+}
+
+// "Its room is its length divided by 32, rounded down, and at most 65,535 records."
+pub fn room(bytes: usize) -> usize
+    ensures { λ r. ⌜ r ≡ roomOf bytes ⌝ }
+{
+    let n = bytes / RECORD_BYTES;
+    if n < RECORDS_MOST { n } else { RECORDS_MOST }
+}
+
+// What stands behind the counts.
+fn write_behind(s: &mut [u8], along: u64, across: u64, link: Link)
+    requires { ⌜ length (now s) ≡ recordBytes - typesMost ⌝ }
+    ensures { λ _. ⌜ now (s .exit) ≡ behind along across link ⌝ }
+{
+    put(s, 0, along);
+    put(s, 2, across);
+    put(s, 4, link.first as u64);
+    put(s, 6, link.second as u64);
+    s[8] = link.kind;
+    zero(&mut s[9..]);
+}
+
+fn write(s: &mut [u8], r: Record)
+    requires { ⌜ length (now s) ≡ recordBytes ⌝ }
+    ensures { λ _. ⌜ now (s .exit) ≡ encode r ⌝ }
+{
+    let counts = r.outline.counts;
+    let how = r.how;
+    put_counts(&mut s[..TYPES_MOST], counts);
+    write_behind(
+        &mut s[TYPES_MOST..],
+        r.outline.length.0,
+        r.outline.width.0,
+        link_of(how),
+    );
+}
+
+fn read(s: &[u8]) -> Record
+    requires { ⌜ length (now s) ≡ recordBytes ⌝ }
+    ensures { λ r. ⌜ Loaded (decode (now (s .entry))) r ⌝ }
+{
+    let counts = counts_of(s);
+    let length = get(s, 12);
+    let width = get(s, 14);
+    let first = get(s, 16) as usize;
+    let second = get(s, 18) as usize;
+    let kind = s[20];
+    let how = how_of(Link {
+        kind,
+        first,
+        second,
+    });
+    Record {
+        outline: Outline {
+            length: Along(length),
+            width: Across(width),
+            counts,
+        },
+        how,
+    }
+}
+
+// Writes record i.
+pub fn store(arena: &mut [u8], i: usize, r: Record)
+    requires { ⌜ Storable (now arena) i r ⌝ }
+    ensures { λ _. ⌜ Stored i r (now (arena .entry)) (now (arena .exit)) ⌝ }
+{
+    let at = i * RECORD_BYTES;
+    let end = at + RECORD_BYTES;
+    write(&mut arena[at..end], r);
+}
+
+// Reads record i.
+pub fn load(arena: &[u8], i: usize) -> Record
+    requires { ⌜ i < roomOf (length (now arena)) ⌝ }
+    ensures { λ r. ⌜ Loaded (recordAt (now (arena .entry)) i) r ⌝ }
+{
+    let at = i * RECORD_BYTES;
+    let end = at + RECORD_BYTES;
+    read(&arena[at..end])
+}
+
+// The first n counts of a record are these.
+fn same_counts(s: &[u8], counts: [u8; TYPES_MOST], n: usize) -> bool
+    requires { ⌜ (length (now s) ≡ recordBytes) × (n ≤ typesMost) ⌝ }
+    ensures { λ r. ⌜ r ≡ sameList (take n counts) (take n (take typesMost (now (s .entry)))) ⌝ }
+{
+    let mut i = 0;
+    while i < n {
+        let at = i;
+        i += 1;
+        if counts[at] != s[at] {
+            return false;
+        }
+    }
+    true
+}
+
+fn same(s: &[u8], o: Outline, types: usize) -> bool
+    requires { ⌜ (length (now s) ≡ recordBytes) × (types ≤ typesMost) ⌝ }
+    ensures { λ r. ⌜ r ≡ sameOutline (outlineOf types o) (outlineOf types (decode (now (s .entry)) .outline)) ⌝ }
+{
+    if o.length.0 != get(s, 12) {
+        return false;
+    }
+    if o.width.0 != get(s, 14) {
+        return false;
+    }
+    let counts = o.counts;
+    same_counts(s, counts, types)
+}
+
+// Record i has this outline, for a job of so many types.
+pub fn same_at(arena: &[u8], i: usize, o: Outline, types: usize) -> bool
+    requires { ⌜ (i < roomOf (length (now arena))) × (types ≤ typesMost) ⌝ }
+    ensures { λ r. ⌜ r ≡ sameOutline (outlineOf types o) (outlineOf types (recordAt (now (arena .entry)) i .outline)) ⌝ }
+{
+    let at = i * RECORD_BYTES;
+    let end = at + RECORD_BYTES;
+    same(&arena[at..end], o, types)
+}

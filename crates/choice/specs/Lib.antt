@@ -1,0 +1,2 @@
+-- What the best of a list is.
+pub mod Best

@@ -1,0 +1,2 @@
+-- What outlines of the code stand for.
+pub mod Stands

@@ -1,0 +1,88 @@
+-- Lists with one element more: distinct, valid, and the work done so far. Assumes nothing.
+use mathlib.Core.Path.{_≡_, refl, sym, ap, ap₂, _∙_, subst}
+use mathlib.Core.Logic.{_⊎_, inl, inr}
+use mathlib.Core.List.{List, [], _∷_, _++_, map, append-nil, append-assoc, List·Memᴰ, List·Memᴰ·head, List·Memᴰ·tail, List·Memᴰ·not-nil, List·Memᴰ·append-cases, List·Memᴰ·eq-of-singleton, Memᴰ·append-left, Memᴰ·append-right, Memᴰ·cast}
+use Prim.Native.Nat.{ℕ, zero, suc, _+_, _≤_, _<_}
+use native.Mathlib.Omega.{arith}
+use native.Mathlib.Decide.{ℕ-discrete}
+use lib.ListN.{length, getD, length-append, length-map, List·getD-append, List·getD-map}
+use lib.Seq.{getD-at}
+use Rattle.rules.specs.Bag.{All, nil, cons}
+use Rattle.rules.specs.Box.{Way}
+use Rattle.rules.specs.Made.{Making, Distinct, no-one, new, MoreThan}
+use Rattle.rules.specs.Job.{Job, Outline, Build, building, alone}
+use Rattle.rules.proofs.Bags.{all-append, map-append}
+use Rattle.rules.proofs.Bridge.{join}
+use Rattle.rules.proofs.Unfold.{Maker, piece, joined, Rec, noRec, at, MadeBy, Valid}
+use Rattle.rules.proofs.Worklist.{Joined, Row, Upto}
+use Rattle.outlines.specs.Listing.{outlinesOf, Sound}
+
+module _ {A : Type 0} where
+  pub distinct-snoc : {a : A} {l : List A} → Distinct l → ¬ List·Memᴰ a l → Distinct (l ++ (a ∷ []))
+  distinct-snoc no-one n = new List·Memᴰ·not-nil no-one
+  distinct-snoc {a} (new {a = x} {l = l} m d) n = new (λ k. go (List·Memᴰ·append-cases l k)) (distinct-snoc d (λ k. n (List·Memᴰ·tail k)))
+    where
+      go : List·Memᴰ x l ⊎ List·Memᴰ x (a ∷ []) → ⊥
+      go (inl k) = m k
+      go (inr k) = n (List·Memᴰ·head (sym (List·Memᴰ·eq-of-singleton k)))
+
+  pub mem-at : (d : A) (l : List A) (i : ℕ) → i < length l → List·Memᴰ (getD l i d) l
+  mem-at d [] i h = absurd (omega arith)
+  mem-at d (x ∷ l) zero h = List·Memᴰ·head refl
+  mem-at d (x ∷ l) (suc i) h = List·Memᴰ·tail (mem-at d l i (omega arith))
+
+  -- what was done stays done when others come behind
+  module _ (m : Making A) (d : A) where
+    pub joined-grow : {l : List A} (t : List A) {a b : A} → Joined m d l a b → Joined m d (l ++ t) a b
+    joined-grow t h = record { sides = λ f. Memᴰ·append-left t (h .sides f); stacks = λ f. Memᴰ·append-left t (h .stacks f) }
+
+    pub row-grow : (l t : List A) (i k : ℕ) → i < length l → k ≤ length l → Row m d l i k → Row m d (l ++ t) i k
+    row-grow l t i k hi hk r q h =
+        let e = List·getD-append l t d i hi in
+        let f = List·getD-append l t d q (omega arith) in
+        subst (λ x. Joined m d (l ++ t) (getD (l ++ t) i d) x) (sym f) (subst (λ x. Joined m d (l ++ t) x (getD l q d)) (sym e) (joined-grow t (r q h)))
+
+    pub upto-grow : (l t : List A) (i : ℕ) → i ≤ length l → Upto m d l i → Upto m d (l ++ t) i
+    upto-grow l t i h u p hp = row-grow l t p (suc p) (omega arith) (omega arith) (u p hp)
+
+-- a record's halves stand where they stood
+made-grow : (j : Job) (rs ts : List Rec) (i : ℕ) (o : Outline) (m : Maker) → i ≤ length rs → MadeBy j rs i o m → MadeBy j (rs ++ ts) i o m
+made-grow j rs ts i o (piece s) h p = p
+made-grow j rs ts i o (joined w a b) h p =
+    let e = List·getD-append rs ts noRec a (omega (arith, p .0)) in
+    let f = List·getD-append rs ts noRec b (omega (arith, p .1)) in
+    (p .0, p .1, p .2 ∙ ap₂ (λ (x y : Rec). join w (x .outline) (y .outline)) (sym e) (sym f))
+
+valid-more : (j : Job) (rs : List Rec) (r : Rec) → Valid j rs → MadeBy j rs (length rs) (r .outline) (r .maker) → Valid j (rs ++ (r ∷ []))
+valid-more j rs r v m i h = go (ℕ-discrete i (length rs))
+  where
+    this : at (rs ++ (r ∷ [])) (length rs) ≡ r
+    this = getD-at rs r [] noRec (length rs) refl
+
+    go : Dec (i ≡ length rs) → MadeBy j (rs ++ (r ∷ [])) i (at (rs ++ (r ∷ [])) i .outline) (at (rs ++ (r ∷ [])) i .maker)
+    go (yes e) = subst (λ k. MadeBy j (rs ++ (r ∷ [])) k (at (rs ++ (r ∷ [])) k .outline) (at (rs ++ (r ∷ [])) k .maker)) (sym e)
+        (subst (λ (x : Rec). MadeBy j (rs ++ (r ∷ [])) (length rs) (x .outline) (x .maker)) (sym this) (made-grow j rs (r ∷ []) (length rs) (r .outline) (r .maker) (omega arith) m))
+    go (no n) =
+        let k : i < length rs = let l = length-append rs (r ∷ []) in omega arith in
+        subst (λ (x : Rec). MadeBy j (rs ++ (r ∷ [])) i (x .outline) (x .maker)) (sym (List·getD-append rs (r ∷ []) noRec i k)) (made-grow j rs (r ∷ []) i (at rs i .outline) (at rs i .maker) (omega arith) (v i k))
+
+-- a new build comes behind sound records
+module _ {j : Job} (rs : List Rec) (r : Rec) (s : Sound j rs) (b : Build j (r .outline)) (n : ¬ List·Memᴰ (r .outline) (outlinesOf rs)) where
+  pub sound-more : MadeBy j rs (length rs) (r .outline) (r .maker) → Sound j (rs ++ (r ∷ []))
+  sound-more m =
+      let e = map-append (λ (x : Rec). x .outline) rs (r ∷ []) in
+      record {
+        once = subst Distinct (sym e) (distinct-snoc (s .once) n);
+        only = subst (All (Build j)) (sym e) (all-append (s .only) (cons {x = r .outline} b nil));
+        valid = valid-more j rs r (s .valid) m;
+      }
+
+  -- and where the room is taken, there are more
+  pub too-many-with : MoreThan (Build j) (length rs)
+  too-many-with = (
+    outlinesOf rs ++ (r .outline ∷ []),
+    distinct-snoc (s .once) n,
+    all-append (s .only) (cons {x = r .outline} b nil),
+    (let l = length-append (outlinesOf rs) (r .outline ∷ []) in
+        let k = length-map rs (λ (x : Rec). x .outline) in omega arith),
+  )

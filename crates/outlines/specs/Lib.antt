@@ -1,0 +1,2 @@
+-- What listing all outlines leaves in the arena.
+pub mod Listing

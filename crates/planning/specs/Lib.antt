@@ -1,0 +1,3 @@
+-- What the steps of the planner answer and leave, and what planner and checker promise together.
+pub mod Plans
+pub mod Promise

@@ -1,0 +1,5 @@
+-- What the reader answers.
+pub mod Walked
+pub mod Pieces
+pub mod Sections
+pub mod Placements

@@ -1,0 +1,3 @@
+-- What the readers of texts answer.
+pub mod Told
+pub mod Plan

@@ -1,0 +1,2 @@
+-- What unfolding a record writes.
+pub mod Laying

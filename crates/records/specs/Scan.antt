@@ -18,7 +18,7 @@ use Rattle.shapes.specs.declared.Job.{Job}
 use Rattle.shapes.specs.declared.Placement.{Placement}
 use Rattle.shapes.specs.declared.PieceType as declared
 use Rattle.shapes.specs.declared.CheckVerdict.{CheckVerdict}
-use Rattle.placing.specs.Place.{NoneAt, Fine, OfJob, TypeOf}
+use Rattle.placing.specs.Place.{NoneAt, Fine, TypeOf}
 use Rattle.records.specs.declared.Scan.{Scan}
 use Rattle.records.specs.declared.Found.{Found}
 use Rattle.records.specs.declared.Found.the-variants.{Clean, OutOfRange, NotAType, OffSheet, AboveDemand}

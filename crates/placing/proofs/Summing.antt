@@ -40,7 +40,7 @@ module _ {j : Job} {flat : List ℕ} {i total : ℕ} (s : Summing j flat i total
       let c = drop-cons (entries flat) (i - 1) noEntry (omega (arith, length-entries flat, s .within)) in
       let z : suc (i - 1) ≡ i = omega arith in
       let d : drop (i - 1) (entries flat) ≡ entryAt flat (i - 1) ∷ drop i (entries flat) = c ∙ ap (λ m. entryAt flat (i - 1) ∷ drop m (entries flat)) z in
-      let k = ap (λ (u : Entry). ofType 0 (jobOf n .profits) (u .type)) (sym at) ∙ profit-of (n .types) (p .kind) ∙ ap (λ (q : PieceType). q .profit) (sym (is .is)) in
+      let k : ofType 0 (jobOf n .profits) (entryAt flat (i - 1) .type) ≡ t .profit = ap (λ (u : Entry). ofType 0 (jobOf n .profits) (u .type)) (sym at) ∙ profit-of (n .types) (p .kind) ∙ ap (λ (q : PieceType). q .profit) (sym (is .is)) in
       record {
         within = omega (arith, s .within);
         sum = rw d (omega (arith, k, s .sum));

@@ -1,5 +1,5 @@
 -- What the checker's answer means: the theorems of the rules over the contract of `check_list`, and so of the entry over records. Assumes nothing.
-use mathlib.Core.Path.{_≡_, refl, sym, _∙_}
+use mathlib.Core.Path.{_≡_}
 use mathlib.Core.Logic.{_↔_}
 use mathlib.Core.Option.{none}
 use mathlib.Core.List.{List}
@@ -9,11 +9,11 @@ use Rattle.rules.specs.Bag.{Same}
 use Rattle.rules.specs.Box.{Disjoint}
 use Rattle.rules.specs.Job.{Outline, Best, profit}
 use Rattle.rules.specs.Placed.{boxes, Accepted}
-use Rattle.rules.specs.Numbers.{Numbers, Entry, entries, jobOf, placed, lying}
+use Rattle.rules.specs.Numbers.{Numbers, entries, jobOf, placed, lying}
 use Rattle.rules.specs.Items.{outOfRange, numbersFrom}
 use Rattle.rules.specs.Checker.{CheckAnswer, Checked}
-use Rattle.rules.specs.Answers.{Ranged, outside, within, CheckNumbers}
-use Rattle.rules.proofs.Bags.{same-map, same-sym}
+use Rattle.rules.specs.Answers.{outside, within, CheckNumbers}
+use Rattle.rules.proofs.Bags.{same-map}
 use Rattle.rules.proofs.Sides.{parted-apart}
 use Rattle.rules.proofs.Order.{none-earns-more}
 use Rattle.rules.proofs.Reorder.{accepted-same}

@@ -5,12 +5,12 @@ use mathlib.Core.Option.{none, some}
 use mathlib.Core.List.{List, [], _∷_, map}
 use Prim.Native.Nat.{ℕ, suc, _≤_, _<_}
 use native.Mathlib.Omega.{arith}
-use lib.ListN.{length, getD, take, length-take}
+use lib.ListN.{length, getD, take}
 use lib.Seq.{getD-take, length-take-le}
 use Rattle.rules.specs.Bag.{All}
 use Rattle.rules.specs.Box.{Box}
 use Rattle.rules.specs.Parted.{CanBeParted}
-use Rattle.rules.specs.Placed.{Placed, boxes, worth}
+use Rattle.rules.specs.Placed.{boxes, worth}
 use Rattle.rules.specs.Numbers.{Numbers, Entry, entries, jobOf, placed, lying}
 use Rattle.rules.specs.Planner.{slotsOf}
 use Rattle.rules.specs.Checker.{CheckAnswer, refused, notAType, offSheet, aboveDemand, overlaps, firstPlace, tests, firstRefusal, nothing, Checked, refusal, not-parted, accepted}
@@ -20,11 +20,11 @@ use Rattle.rules.specs.Answers.{within, CheckNumbers}
 use Rattle.shapes.specs.Handed.{itemsOf, numbersOf}
 use Rattle.shapes.specs.declared.Job.{Job}
 use Rattle.parting.specs.Region.{boxAt, boxesOf, Listed, Answers}
-use Rattle.placing.specs.Place.{noEntry, entryAt, placeIn, FirstAt, NoneAt}
+use Rattle.placing.specs.Place.{noEntry, placeIn, FirstAt, NoneAt}
 use Rattle.placing.specs.declared.Place.{Place}
 use Rattle.placing.specs.declared.Place.the-variants.{At, Nowhere}
 use Rattle.placing.proofs.Entries.{length-entries}
-use Rattle.laying.specs.Laid.{Laid, OnSheet, Ready, FirstOverlap, Counted}
+use Rattle.laying.specs.Laid.{Laid, Ready, FirstOverlap, Counted}
 
 -- what a test found
 pub found-none : (f : List Entry → Entry → Bool) (flat : List ℕ) {r : Place} → FirstAt f flat r → r ≡ Nowhere → NoneAt f flat

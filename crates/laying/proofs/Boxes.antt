@@ -1,15 +1,15 @@
 -- Boxes as flat numbers: writing one, and whether two overlap. Assumes nothing.
-use mathlib.Core.Path.{_≡_, refl, sym, ap, _∙_}
-use mathlib.Core.Bool.{Bool, true, false}
+use mathlib.Core.Path.{_≡_, refl, sym, _∙_}
+use mathlib.Core.Bool.{false}
 use mathlib.Core.Logic.{_≢_, inl, inr}
 use mathlib.Core.List.{List}
 use Prim.Native.Nat.{ℕ, _+_, _*_, _-_, _≤_, _<_}
 use native.Mathlib.Omega.{arith}
-use lib.ListN.{length, getD, set, length-set}
+use lib.ListN.{getD, set, length-set}
 use lib.Seq.{getD-set-same, getD-set-other}
 use lib.Dec.{ltb}
 use borrow.Author.Tests.{lt-ltb}
-use Rattle.rules.specs.Box.{Box, along, across, near, far, overlap}
+use Rattle.rules.specs.Box.{along, across, near, far, overlap}
 use Rattle.rules.proofs.Boxes.{of-apart}
 use Rattle.parting.specs.Region.{boxAt, Listed}
 use Rattle.laying.specs.Laid.{Room, BoxPut}

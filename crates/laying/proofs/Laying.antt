@@ -1,26 +1,24 @@
 -- The boxes of a list, one after the other. Assumes nothing.
 use mathlib.Core.Path.{_≡_, refl, sym, ap, _∙_, subst}
 use mathlib.Core.List.{List}
-use Prim.Native.Nat.{ℕ, _+_, _*_, _≤_, _<_}
+use Prim.Native.Nat.{ℕ, _+_, _≤_, _<_}
 use native.Mathlib.Omega.{arith}
-use native.Mathlib.Numerals.{add-one}
 use native.Mathlib.Decide.{ℕ-discrete}
 use lib.ListN.{length}
-use Rattle.rules.specs.Limits.{sizeMost}
 use Rattle.rules.specs.Placed as rules
 use Rattle.rules.specs.Box.{Box, Way, along, across, near, far}
 use Rattle.rules.specs.Numbers.{PieceType, Entry, entries, noType, placed, jobOf}
 use Rattle.rules.specs.Planner.{slotsOf}
 use Rattle.rules.proofs.Bags.{all-index}
 use Rattle.rules.proofs.Accept.{sheet-kept}
-use Rattle.shapes.specs.Handed.{typeOf, numbersOf, entryOf}
+use Rattle.shapes.specs.Handed.{numbersOf, entryOf}
 use Rattle.shapes.specs.declared.Job.{Job}
 use Rattle.shapes.specs.declared.PieceType as declared
 use Rattle.shapes.specs.declared.Placement.{Placement}
 use Rattle.parting.specs.Region.{boxAt, Listed}
-use Rattle.placing.specs.Place.{noEntry, entryAt, OfJob, TypeOf}
+use Rattle.placing.specs.Place.{noEntry, entryAt, TypeOf}
 use Rattle.placing.proofs.Entries.{length-entries}
-use Rattle.laying.specs.Laid.{Room, BoxPut, Boxed, Laid, OnSheet, ToLay}
+use Rattle.laying.specs.Laid.{Room, BoxPut, Laid, OnSheet, ToLay}
 
 pub record Laying (j : Job) (flat was s : List ℕ) (i : ℕ) : Type 0 where
   pub within : i ≤ slotsOf (length flat)

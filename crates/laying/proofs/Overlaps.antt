@@ -1,7 +1,7 @@
 -- The first box that overlaps an earlier one: the search of test 9. Assumes nothing.
 use mathlib.Core.Path.{_≡_, refl, sym, ap, ap₂, _∙_}
 use mathlib.Core.Bool.{Bool, true, false}
-use mathlib.Core.List.{List, [], _∷_}
+use mathlib.Core.List.{List}
 use Prim.Native.Nat.{ℕ, zero, suc, _+_, _-_, _≤_, _<_}
 use native.Mathlib.Omega.{arith}
 use lib.ListN.{length}
@@ -9,11 +9,11 @@ use lib.Dec.{ltb}
 use borrow.Author.Tests.{lt-ltb}
 use Rattle.rules.specs.Bag.{tick, count}
 use Rattle.rules.specs.Box.{Box, overlap}
-use Rattle.rules.specs.Numbers.{Numbers, Entry, entries, placed}
+use Rattle.rules.specs.Numbers.{Numbers, entries, placed}
 use Rattle.rules.specs.Planner.{slotsOf}
 use Rattle.rules.specs.Checker.{overlaps}
 use Rattle.parting.specs.Region.{boxAt}
-use Rattle.placing.specs.Place.{entryAt, FirstAt}
+use Rattle.placing.specs.Place.{entryAt}
 use Rattle.placing.specs.declared.Place.the-variants.{At, Nowhere}
 use Rattle.placing.proofs.Seeking.{earlier, Seeking, seek-start, seek-next, seek-found, seek-none}
 use Rattle.laying.specs.Laid.{below, overlapsBelow, Laid, FirstOverlap}

@@ -9,13 +9,12 @@ ghost use Rattle.rules.specs.Box.{overlap};
 ghost use Rattle.shapes.specs.Handed.{numbersOf};
 ghost use Rattle.parting.specs.Region.{boxAt, Listed};
 ghost use Rattle.laying.specs.Laid.{Room, BoxPut, ToLay, Laid, Boxed, overlapsBelow, FirstOverlap, Counted};
+use parting::BOX_NUMBERS;
 use placing::Place;
 use placing::entry_at;
 use placing::type_of;
 use shapes::Job;
 use shapes::placements_in;
-
-pub const BOX_NUMBERS: usize = 4;
 
 fn put_box(boxes: &mut [u64], i: usize, x: u64, length: u64, y: u64, width: u64)
     requires { ⌜ Room (now boxes) i x length y width ⌝ }

@@ -1,10 +1,10 @@
 -- Cuts along and cuts across take turns: the laws of one turn, over the way. Assumes nothing.
 use mathlib.Core.Path.{_≡_, refl, sym, ap, _∙_, subst}
 use mathlib.Core.Bool.{Bool, true, false, true≢false}
-use mathlib.Core.List.{List, [], _∷_, _++_, map, append-nil}
+use mathlib.Core.List.{List, [], _++_, append-nil}
 use Prim.Native.Nat.{ℕ, _+_, _*_, _-_, _≤_, _<_}
 use native.Mathlib.Omega.{arith}
-use lib.ListN.{length, getD, take, drop, take-append-drop, length-take, length-drop, length-append, drop-of-length-le, length-map}
+use lib.ListN.{length, take, drop, take-append-drop, length-take, length-drop, length-append, drop-of-length-le, length-map}
 use lib.Seq.{take-all, take-at, drop-at}
 use Rattle.rules.specs.Bag.{count, All, Same}
 use Rattle.rules.specs.Box.{Way, along, across}
@@ -12,7 +12,7 @@ use Rattle.rules.specs.Parted.{CanBeParted, few}
 use Rattle.rules.proofs.Bags.{count-append, same-refl, same-trans, same-sym, same-length, same-map, map-append, all-map, all-image, all-take, all-drop}
 use Rattle.rules.proofs.Heredity.{reorder}
 use Rattle.rules.proofs.Sweep.{split-iff, stuck, cut-same}
-use Rattle.parting.specs.Region.{otherWay, boxAt, boxesOf, Listed, Region, NoCut, Between, FirstPart, Divided, Asks, Answers}
+use Rattle.parting.specs.Region.{otherWay, boxAt, boxesOf, Listed, Region, NoCut, Divided, Asks, Answers}
 use Rattle.parting.proofs.Lines.{all-reordered}
 
 module _ {A : Type 0} where

@@ -71,7 +71,7 @@ pub record Passed (s : List ℕ) (way gap : ℕ) (was now : List ℕ) : Type 0 w
   pub ordered : gap ≡ 1 → OrderedTo (nearLine s way) now (length now)
 
 -- the answer whether a region stands in order
-pub record Found (s : List ℕ) (way : ℕ) (l : List ℕ) (r : Bool) : Type 0 where
+pub record OrderTold (s : List ℕ) (way : ℕ) (l : List ℕ) (r : Bool) : Type 0 where
   pub ordered : r ≡ true → OrderedTo (nearLine s way) l (length l)
 
 pub record Sorted (s : List ℕ) (way : ℕ) (was now : List ℕ) : Type 0 where

@@ -1,27 +1,27 @@
 -- How many entries of each type came before: the search of test 8. Assumes nothing.
-use mathlib.Core.Path.{_≡_, refl, sym, ap, _∙_, subst}
-use mathlib.Core.Bool.{Bool, true, false}
-use mathlib.Core.List.{List, [], _∷_}
+use mathlib.Core.Path.{_≡_, refl, sym, ap, _∙_}
+use mathlib.Core.Bool.{true, false}
+use mathlib.Core.List.{List}
 use Prim.Native.Nat.{ℕ, zero, suc, _+_, _-_, _≤_, _<_}
 use native.Mathlib.Omega.{arith}
 use native.Mathlib.Numerals.{add-one}
 use native.Mathlib.Decide.{ℕ-discrete}
 use lib.ListN.{length, getD, set, replicate, length-set}
 use lib.Seq.{getD-set-same, getD-set-other}
-use lib.Dec.{eqb, leb}
+use lib.Dec.{eqb}
 use borrow.Author.Tests.{le-leb, lt-leb, eq-eqb, ne-eqb}
 use Rattle.rules.specs.Limits.{typesMost}
 use Rattle.rules.specs.Bag.{tick, count}
 use Rattle.rules.specs.Placed.{ofType}
-use Rattle.rules.specs.Numbers.{Numbers, PieceType, Entry, entries, noType}
+use Rattle.rules.specs.Numbers.{PieceType, Entry, entries, noType}
 use Rattle.rules.specs.Planner.{slotsOf}
 use Rattle.rules.specs.Checker.{aboveDemand}
-use Rattle.shapes.specs.Handed.{typeOf, numbersOf, entryOf}
+use Rattle.shapes.specs.Handed.{numbersOf, entryOf}
 use Rattle.shapes.specs.declared.Job.{Job}
 use Rattle.shapes.specs.declared.PieceType as declared
 use Rattle.shapes.specs.declared.Placement.{Placement}
 use Rattle.placing.specs.Place.{entryAt, FirstAt, OfJob, TypeOf}
-use Rattle.placing.specs.declared.Place.the-variants.{At, Nowhere}
+use Rattle.placing.specs.declared.Place.the-variants.{At}
 use Rattle.placing.proofs.Seeking.{earlier, Seeking, seek-start, seek-next, seek-found}
 
 -- how many of the first i entries are of type t

@@ -1,10 +1,10 @@
 -- The entries of a list of flat numbers by their places. Assumes nothing.
-use mathlib.Core.Path.{_≡_, refl, sym, ap, _∙_}
+use mathlib.Core.Path.{_≡_, refl}
 use mathlib.Core.List.{List, [], _∷_}
-use Prim.Native.Nat.{ℕ, zero, suc, _+_, _*_, _/_, _≤_, _<_}
+use Prim.Native.Nat.{ℕ, zero, suc, _+_, _*_, _<_}
 use native.Mathlib.Omega.{arith}
 use lib.ListN.{length, getD}
-use Rattle.rules.specs.Numbers.{Entry, entries}
+use Rattle.rules.specs.Numbers.{entries}
 use Rattle.rules.specs.Planner.{slotsOf}
 use Rattle.placing.specs.Place.{entryAt}
 

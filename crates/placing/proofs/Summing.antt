@@ -1,19 +1,19 @@
 -- What the pieces of a list earn, from the last to the first. Assumes nothing.
-use mathlib.Core.Path.{_≡_, refl, sym, ap, ap₂, _∙_}
-use mathlib.Core.List.{List, [], _∷_, map}
+use mathlib.Core.Path.{_≡_, refl, sym, ap, _∙_}
+use mathlib.Core.List.{List, _∷_, map}
 use Prim.Native.Nat.{ℕ, zero, suc, _+_, _*_, _-_, _≤_, _<_}
 use native.Mathlib.Omega.{arith}
-use lib.ListN.{length, drop, getD, drop-of-length-le, List·getD-map}
+use lib.ListN.{length, drop, drop-of-length-le, List·getD-map}
 use lib.Seq.{drop-cons}
-use Rattle.rules.specs.Limits.{profitMost, piecesMost}
+use Rattle.rules.specs.Limits.{profitMost}
 use Rattle.rules.specs.Placed.{ofType, worth}
-use Rattle.rules.specs.Numbers.{Numbers, PieceType, Entry, entries, noType, jobOf, lying}
+use Rattle.rules.specs.Numbers.{PieceType, Entry, entries, noType, jobOf, lying}
 use Rattle.rules.specs.Planner.{slotsOf}
-use Rattle.shapes.specs.Handed.{typeOf, numbersOf, entryOf}
+use Rattle.shapes.specs.Handed.{numbersOf, entryOf}
 use Rattle.shapes.specs.declared.Job.{Job}
 use Rattle.shapes.specs.declared.PieceType as declared
 use Rattle.shapes.specs.declared.Placement.{Placement}
-use Rattle.placing.specs.Place.{noEntry, entryAt, TypeOf, Demanded}
+use Rattle.placing.specs.Place.{noEntry, entryAt, TypeOf}
 use Rattle.placing.proofs.Entries.{length-entries}
 
 -- the total is what the entries from i on earn
@@ -40,7 +40,7 @@ module _ {j : Job} {flat : List ℕ} {i total : ℕ} (s : Summing j flat i total
       let c = drop-cons (entries flat) (i - 1) noEntry (omega (arith, length-entries flat, s .within)) in
       let z : suc (i - 1) ≡ i = omega arith in
       let d : drop (i - 1) (entries flat) ≡ entryAt flat (i - 1) ∷ drop i (entries flat) = c ∙ ap (λ m. entryAt flat (i - 1) ∷ drop m (entries flat)) z in
-      let k = ap (λ (u : Entry). ofType 0 (jobOf n .profits) (u .type)) (sym at) ∙ profit-of (n .types) (p .kind) ∙ ap (λ (q : PieceType). q .profit) (sym (is .is)) in
+      let k : ofType 0 (jobOf n .profits) (entryAt flat (i - 1) .type) ≡ t .profit = ap (λ (u : Entry). ofType 0 (jobOf n .profits) (u .type)) (sym at) ∙ profit-of (n .types) (p .kind) ∙ ap (λ (q : PieceType). q .profit) (sym (is .is)) in
       record {
         within = omega (arith, s .within);
         sum = rw d (omega (arith, k, s .sum));

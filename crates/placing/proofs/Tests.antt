@@ -1,6 +1,6 @@
 -- The tests of one entry as the code asks them. Assumes nothing.
 use mathlib.Core.Path.{_≡_, refl, sym, ap, _∙_}
-use mathlib.Core.Bool.{Bool, not, _&&_, _||_, true, false}
+use mathlib.Core.Bool.{Bool, not, _||_, true, false}
 use mathlib.Core.List.{List, []}
 use Prim.Native.Nat.{ℕ, zero, suc, _+_, _-_, _≤_, _<_}
 use native.Mathlib.Omega.{arith}
@@ -12,7 +12,7 @@ use Rattle.rules.specs.Placed.{ofType}
 use Rattle.rules.specs.Numbers.{PieceType, Entry, noType}
 use Rattle.rules.specs.Checker.{notAType, offSheet}
 use Rattle.rules.proofs.Bools.{not-true, not-false, or-false}
-use Rattle.shapes.specs.Handed.{typeOf, numbersOf, entryOf}
+use Rattle.shapes.specs.Handed.{numbersOf, entryOf}
 use Rattle.shapes.specs.declared.Job.{Job}
 use Rattle.shapes.specs.declared.PieceType as declared
 use Rattle.shapes.specs.declared.Placement.{Placement}

@@ -1,21 +1,18 @@
 -- The types of a job handed over, by their numbers, and the entries that are of one. Assumes nothing.
-use mathlib.Core.Path.{_≡_, refl, sym, ap, _∙_, subst}
-use mathlib.Core.Bool.{Bool, not, _||_, true, false}
-use mathlib.Core.List.{List, [], _∷_, map}
-use Prim.Native.Nat.{ℕ, zero, suc, _+_, _*_, _-_, _≤_, _<_}
+use mathlib.Core.Path.{_≡_, sym, _∙_, subst}
+use mathlib.Core.List.{List, map}
+use Prim.Native.Nat.{ℕ, zero, suc, _*_, _-_, _≤_, _<_}
 use native.Mathlib.Omega.{arith}
-use lib.ListN.{length, getD, take, length-map, length-take, List·getD-map}
+use lib.ListN.{length, getD, length-map, List·getD-map}
 use lib.Seq.{getD-take, length-take-le}
-use lib.Dec.{eqb, leb, ltb}
-use Rattle.rules.specs.Limits.{typesMost, demandMost, piecesMost}
+use Rattle.rules.specs.Limits.{demandMost, piecesMost}
 use Rattle.rules.specs.Bag.{sum, All, nil, cons}
-use Rattle.rules.specs.Job.{types, AtMost}
-use Rattle.rules.specs.Placed.{ofType, countsOf}
-use Rattle.rules.specs.Numbers.{Numbers, PieceType, Entry, entries, noType, jobOf, lying, placed}
+use Rattle.rules.specs.Job.{types}
+use Rattle.rules.specs.Placed.{countsOf}
+use Rattle.rules.specs.Numbers.{PieceType, Entry, entries, noType, jobOf, lying, placed}
 use Rattle.rules.specs.Planner.{slotsOf}
-use Rattle.rules.specs.Checker.{notAType, offSheet}
 use Rattle.rules.proofs.Bags.{all-index, all-image}
-use Rattle.rules.proofs.Ranges.{InRange, TypeInRange}
+use Rattle.rules.proofs.Ranges.{TypeInRange}
 use Rattle.rules.proofs.Tally as tally
 use Rattle.rules.proofs.Accept.{types-of, types-kept, demands-kept}
 use Rattle.shapes.specs.Handed.{typeOf, numbersOf, entryOf}

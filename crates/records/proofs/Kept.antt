@@ -1,18 +1,18 @@
 -- What a clean state keeps, with one placement more. Assumes nothing.
-use mathlib.Core.Path.{_≡_, refl, sym, ap, _∙_}
+use mathlib.Core.Path.{_≡_, sym, ap, _∙_}
 use mathlib.Core.List.{List, [], _∷_, _++_, append-assoc}
-use Prim.Native.Nat.{ℕ, zero, suc, _+_, _*_, _-_, _≤_, _<_}
+use Prim.Native.Nat.{ℕ, suc, _+_, _*_, _-_, _≤_, _<_}
 use native.Mathlib.Omega.{arith}
 use native.Mathlib.Decide.{ℕ-discrete}
 use lib.ListN.{length, getD, take, set, length-set, length-append}
 use lib.Seq.{take-suc-set, getD-set-same, getD-set-other}
 use lib.Dec.{eqb}
 use borrow.Author.Tests.{eq-eqb, ne-eqb}
-use Rattle.rules.specs.Limits.{typesMost, piecesMost}
+use Rattle.rules.specs.Limits.{typesMost}
 use Rattle.rules.specs.Bag.{tick, count}
 use Rattle.shapes.specs.declared.Placement.{Placement}
 use Rattle.records.specs.declared.Scan.{Scan}
-use Rattle.records.specs.Scan.{flatOf, behind, Keeps, Kept, Holding}
+use Rattle.records.specs.Scan.{behind, Keeps, Kept, Holding}
 use Rattle.records.proofs.Places.{flat-more, behind-more}
 
 -- three numbers set behind the first n

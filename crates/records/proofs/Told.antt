@@ -1,7 +1,6 @@
 -- What is found of a list of records, one placement after the other, and the answer at its end. Assumes nothing.
 use mathlib.Core.Path.{_≡_, refl, sym, ap, _∙_, subst}
 use mathlib.Core.Bool.{Bool, true, false}
-use mathlib.Core.Option.{none, some}
 use mathlib.Core.List.{List, [], _∷_, _++_}
 use Prim.Native.Nat.{ℕ, zero, suc, _+_, _*_, _-_, _≤_, _<_}
 use native.Mathlib.Omega.{arith}
@@ -10,9 +9,9 @@ use lib.Dec.{ltb, eqb}
 use borrow.Author.Tests.{le-leb, lt-leb, lt-ltb, le-ltb, ltb-true, ltb-false}
 use Rattle.rules.specs.Limits.{typesMost, piecesMost}
 use Rattle.rules.specs.Bag.{count}
-use Rattle.rules.specs.Items.{outOfRange, numbersFrom}
+use Rattle.rules.specs.Items.{numbersFrom}
 use Rattle.rules.specs.Placed.{ofType}
-use Rattle.rules.specs.Numbers.{Numbers, PieceType, Entry, entries, noType}
+use Rattle.rules.specs.Numbers.{Numbers, PieceType, Entry, noType}
 use Rattle.rules.specs.Checker.{notAType, offSheet, aboveDemand}
 use Rattle.rules.specs.Answers.{outside, CheckNumbers}
 use Rattle.shapes.specs.Answer.{checkAnswer}
@@ -33,7 +32,7 @@ use Rattle.records.specs.declared.Scan.{Scan}
 use Rattle.records.specs.declared.Found.{Found}
 use Rattle.records.specs.declared.Found.the-variants.{Clean, OutOfRange, NotAType, OffSheet, AboveDemand}
 use Rattle.records.specs.Scan.{flatOf, behind, Began, bad, good, Tested, no-type, off, above, passes, rankOf, choose, soonerOf, Keeps, Kept, Short, Alive, Holding, FirstIs, Told, out, six, seven, eight, clean, Scanning, Reached, Steps, Ends}
-use Rattle.records.proofs.Places.{length-flat, length-entries-flat, place-kept, place-none, place-here}
+use Rattle.records.proofs.Places.{length-flat, place-kept, place-none, place-here}
 use Rattle.records.proofs.Kept.{holding-next}
 
 module _ (j : Job) (ps : List Placement) (s : Scan) (p : Placement) where

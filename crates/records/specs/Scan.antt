@@ -6,7 +6,7 @@ use mathlib.Core.List.{List, [], _∷_, _++_}
 use Prim.Native.Nat.{ℕ, suc, _+_, _*_, _-_, _≤_, _<_, _^_}
 use lib.ListN.{length, getD, take, set}
 use lib.Dec.{ltb, eqb}
-use Rattle.rules.specs.Limits.{typesMost, demandMost, piecesMost}
+use Rattle.rules.specs.Limits.{typesMost, demandMost, piecesMost, placementNumbers}
 use Rattle.rules.specs.Bag.{count}
 use Rattle.rules.specs.Items.{outOfRange}
 use Rattle.rules.specs.Numbers.{Entry, entries}
@@ -18,7 +18,7 @@ use Rattle.shapes.specs.declared.Job.{Job}
 use Rattle.shapes.specs.declared.Placement.{Placement}
 use Rattle.shapes.specs.declared.PieceType as declared
 use Rattle.shapes.specs.declared.CheckVerdict.{CheckVerdict}
-use Rattle.placing.specs.Place.{NoneAt, Fine, OfJob, TypeOf}
+use Rattle.placing.specs.Place.{NoneAt, Fine, TypeOf}
 use Rattle.records.specs.declared.Scan.{Scan}
 use Rattle.records.specs.declared.Found.{Found}
 use Rattle.records.specs.declared.Found.the-variants.{Clean, OutOfRange, NotAType, OffSheet, AboveDemand}
@@ -68,12 +68,12 @@ pub record Kept (s : Scan) (p : Placement) (r : Scan) : Type 0 where
   pub found : r .found ≡ s .found
   pub seen : r .seen ≡ s .seen + 1
   pub counts : r .counts ≡ set (s .counts) (p .kind - 1) (getD (s .counts) (p .kind - 1) 0 + 1)
-  pub flat : r .flat ≡ set (set (set (s .flat) (s .seen * 3) (p .kind)) (s .seen * 3 + 1) (p .x)) (s .seen * 3 + 2) (p .y)
+  pub flat : r .flat ≡ set (set (set (s .flat) (s .seen * placementNumbers) (p .kind)) (s .seen * placementNumbers + 1) (p .x)) (s .seen * placementNumbers + 2) (p .y)
 
 -- the flat numbers have room for what was seen
 pub record Short (s : Scan) : Type 0 where
   pub few : s .seen ≤ piecesMost
-  pub room : length (s .flat) ≡ 3 * piecesMost
+  pub room : length (s .flat) ≡ placementNumbers * piecesMost
 
 -- the entries of a list, the nearest first
 abbrev pub onto : List Entry → List Entry → List Entry
@@ -93,8 +93,8 @@ pub record Alive (j : Job) (ps : List Placement) (s : Scan) : Type 0 where
 pub record Holding (ps : List Placement) (s : Scan) : Type 0 where
   pub types : length (s .counts) ≡ typesMost
   pub held : (k : ℕ) → k < typesMost → getD (s .counts) k 0 ≡ count (λ u. eqb (u .type) (suc k)) (behind ps)
-  pub room : length (s .flat) ≡ 3 * piecesMost
-  pub flat : take (length ps * 3) (s .flat) ≡ flatOf ps
+  pub room : length (s .flat) ≡ placementNumbers * piecesMost
+  pub flat : take (length ps * placementNumbers) (s .flat) ≡ flatOf ps
 
 -- the first place of the records at which a test holds
 abbrev pub FirstIs : (List Entry → Entry → Bool) → List Placement → ℕ → Type 0

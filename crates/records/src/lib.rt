@@ -5,6 +5,7 @@ ghost use mathlib.Core.Path.{_≡_};
 ghost use mathlib.Core.List.{[]};
 ghost use Prim.Native.Nat.{_*_};
 ghost use lib.ListN.{take};
+ghost use Rattle.rules.specs.Limits.{placementNumbers};
 ghost use Rattle.rules.specs.Answers.{CheckNumbers};
 ghost use Rattle.shapes.specs.Answer.{checkAnswer};
 ghost use Rattle.shapes.specs.Handed.{itemsOf};
@@ -154,7 +155,7 @@ pub fn scan_step(s: Scan, p: Placement) -> Scan
 
 fn check_flat(s: Scan) -> CheckVerdict
     requires { ⌜ Short s ⌝ }
-    ensures { λ r. ⌜ CheckNumbers (take (s .seen * 3) (s .flat)) (itemsOf (s .job)) (checkAnswer r) ⌝ }
+    ensures { λ r. ⌜ CheckNumbers (take (s .seen * placementNumbers) (s .flat)) (itemsOf (s .job)) (checkAnswer r) ⌝ }
 {
     let job = s.job;
     let flat = s.flat;

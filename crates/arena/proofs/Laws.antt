@@ -1,17 +1,17 @@
 -- The arena as a list of records: writing one more, and reading what stands. Assumes nothing.
 use mathlib.Core.Path.{_≡_, refl, sym, ap, _∙_, subst}
 use mathlib.Core.List.{List, [], _∷_, _++_}
-use Prim.Native.Nat.{ℕ, zero, suc, _+_, _*_, _/_, _≤_, _<_}
+use Prim.Native.Nat.{ℕ, zero, suc, _+_, _*_, _≤_, _<_}
 use native.Mathlib.Omega.{arith}
 use native.Mathlib.Numerals.{add-one}
 use native.Mathlib.Decide.{ℕ-discrete}
-use lib.ListN.{length, getD, take, drop, length-take, length-drop, length-append, List·getD-append}
+use lib.ListN.{length, take, drop, length-take, length-drop, length-append, List·getD-append}
 use lib.Seq.{take-at, drop-at, length-take-le, ext-getD, getD-take, getD-drop, getD-at}
 use Rattle.rules.specs.Limits.{typesMost, recordBytes}
 use Rattle.rules.specs.Planner.{roomOf}
-use Rattle.rules.proofs.Unfold.{Rec, noRec, at}
+use Rattle.rules.proofs.Unfold.{noRec, at}
 use Rattle.arena.specs.declared.Record.{Record}
-use Rattle.arena.specs.Bytes.{linkOf, encode, decode, chunk, putChunk}
+use Rattle.arena.specs.Bytes.{encode, decode, chunk, putChunk}
 use Rattle.arena.specs.Records.{recordAt, recOf, recs, Storable, Stored}
 use Rattle.arena.proofs.Codec.{decode-encode, length-encode}
 

@@ -9,13 +9,13 @@ use shapes::RECORD_BYTES;
 use shapes::RECORDS_MOST;
 use shapes::TYPES_MOST;
 ghost use mathlib.Core.Path.{_≡_};
-ghost use Prim.Native.Nat.{ℕ, _+_, _*_, _≤_, _<_, _-_};
+ghost use Prim.Native.Nat.{_+_, _*_, _≤_, _<_, _-_};
 ghost use lib.ListN.{length, take, replicate};
 ghost use Rattle.rules.specs.Limits.{recordBytes, typesMost};
 ghost use Rattle.rules.specs.Planner.{roomOf};
 ghost use Rattle.rules.proofs.Outlines.{sameList, sameOutline};
 ghost use Rattle.outline.specs.Stands.{outlineOf};
-ghost use Rattle.arena.specs.Bytes.{word, putWord, behind, linkOf, howOf, encode, decode, putChunk};
+ghost use Rattle.arena.specs.Bytes.{word, putWord, behind, linkOf, howOf, encode, decode};
 ghost use Rattle.arena.specs.Records.{recordAt, Storable, Stored, Loaded};
 
 // A piece of a type, numbered from 1, or a join of two records that stand before.

@@ -1,22 +1,20 @@
 -- Laws of counts, of a job's types, and of one piece's counts. Assumes nothing.
 use mathlib.Core.Path.{_≡_, refl, sym, ap, _∙_, subst}
-use mathlib.Core.Bool.{Bool, true, false, _&&_}
-use mathlib.Core.Logic.{_⊎_, inl, inr}
+use mathlib.Core.Bool.{true, false}
 use mathlib.Core.List.{List, [], _∷_, map}
 use Prim.Native.Nat.{ℕ, zero, suc, _+_, _%_, _≤_, _<_}
 use native.Mathlib.Omega.{arith}
 use native.Mathlib.Decide.{ℕ-discrete}
 use lib.Dec.{eqb, leb}
-use lib.ListN.{length, getD, take, set, replicate, length-take, length-set, length-map, length-replicate, getD-replicate, List·getD-map}
+use lib.ListN.{length, getD, take, set, replicate, length-set, length-map, length-replicate, getD-replicate, List·getD-map}
 use lib.Seq.{ext-getD, getD-take, getD-set-same, getD-set-other, length-take-le}
 use borrow.Author.Count.{below-more}
 use borrow.Author.Tests.{le-leb, lt-leb, eq-eqb, ne-eqb}
-use Rattle.rules.specs.Limits.{typesMost, demandMost}
+use Rattle.rules.specs.Limits.{demandMost}
 use Rattle.rules.specs.Bag.{tick, All, nil, cons}
 use Rattle.rules.specs.Job.{AtMost, plus, table, types, alone}
-use Rattle.rules.specs.Numbers.{PieceType, noType, grown, jobOf}
+use Rattle.rules.specs.Numbers.{PieceType, noType}
 use Rattle.rules.proofs.Bools.{and-false-left, and-false-right, both-and}
-use Rattle.rules.proofs.Bags.{all-at}
 use Rattle.rules.proofs.Tally.{length-table}
 use Rattle.rules.proofs.Outlines.{atMost}
 use Rattle.rules.proofs.Ranges.{TypeInRange}

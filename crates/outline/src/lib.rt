@@ -4,7 +4,7 @@
 use shapes::Job;
 use shapes::TYPES_MOST;
 ghost use mathlib.Core.Path.{_≡_};
-ghost use Prim.Native.Nat.{ℕ, _+_, _%_, _<_, max};
+ghost use Prim.Native.Nat.{_+_, _%_, _<_, max};
 ghost use Rattle.rules.specs.Job.{horizontal, vertical};
 ghost use Rattle.rules.proofs.Bridge.{join};
 ghost use Rattle.rules.proofs.Outlines.{atMost, fits};

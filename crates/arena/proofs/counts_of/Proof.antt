@@ -1,9 +1,9 @@
 -- `arena::counts_of` meets its contract. The invariant: below i the bytes are copied. Assumes nothing.
-use Prim.Native.Nat.{ℕ, _+_, _-_, _*_, _≤_, _<_}
+use Prim.Native.Nat.{ℕ, _-_, _≤_, _<_}
 use native.Mathlib.Omega.{arith}
-use mathlib.Core.Path.{_≡_, refl, sym, ap, _∙_}
+use mathlib.Core.Path.{_≡_, refl, sym, _∙_}
 use lib.ListN.{length, getD, length-set}
-use lib.ListN.{take, length-take}
+use lib.ListN.{length-take}
 use lib.Seq.{ext-getD, getD-take}
 use Rattle.outline.proofs.Laws.{grow}
 use borrow.Author.Needs.{needs}

@@ -1,7 +1,7 @@
 -- `arena::same_at` meets its contract. Assumes nothing.
 use Prim.Native.Nat.{_+_, _*_, _-_}
 use native.Mathlib.Omega.{arith}
-use mathlib.Core.Path.{_≡_, refl, sym, ap, _∙_}
+use mathlib.Core.Path.{_≡_, _∙_}
 use Rattle.arena.specs.Bytes.{chunk}
 use borrow.Author.Needs.{needs}
 use Rattle.arena.proofs.same_at.Statement.{statement}

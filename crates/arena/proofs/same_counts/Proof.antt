@@ -1,8 +1,8 @@
 -- `arena::same_counts` meets its contract. The invariant: below i the counts agree. Assumes nothing.
-use Prim.Native.Nat.{ℕ, _+_, _-_, _*_, _≤_, _<_}
+use Prim.Native.Nat.{ℕ, _-_, _≤_, _<_}
 use native.Mathlib.Omega.{arith}
-use mathlib.Core.Path.{_≡_, refl, sym, ap, _∙_}
-use lib.ListN.{length, getD, length-set}
+use mathlib.Core.Path.{_≡_, sym, _∙_}
+use lib.ListN.{getD}
 use lib.ListN.{take, length-take}
 use lib.Seq.{getD-take}
 use borrow.Author.Count.{below-more}

@@ -1,7 +1,7 @@
 -- `arena::store` meets its contract. Assumes nothing.
 use Prim.Native.Nat.{_+_, _*_, _-_}
 use native.Mathlib.Omega.{arith}
-use mathlib.Core.Path.{_≡_, refl, sym, ap, _∙_}
+use mathlib.Core.Path.{_≡_, refl}
 use lib.ListN.{length}
 use Rattle.arena.specs.Bytes.{putChunk}
 use Rattle.arena.proofs.Laws.{stored}

@@ -1,5 +1,4 @@
 -- `arena::write` meets its contract: the counts, and what stands behind them. Assumes nothing.
-use Prim.Native.Nat.{_+_, _*_, _-_}
 use native.Mathlib.Omega.{arith}
 use mathlib.Core.Path.{_≡_, ap, ap₂, _∙_}
 use mathlib.Core.List.{_++_}

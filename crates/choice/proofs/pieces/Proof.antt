@@ -1,8 +1,8 @@
 -- `choice::pieces` meets its contract. The invariant: the sum of the first i counts. Assumes nothing.
-use Prim.Native.Nat.{ℕ, _+_, _-_, _*_, _≤_, _<_}
+use Prim.Native.Nat.{_-_, _*_, _≤_}
 use native.Mathlib.Omega.{arith}
-use mathlib.Core.Path.{_≡_, refl, sym, ap, _∙_}
-use lib.ListN.{length, getD, take}
+use mathlib.Core.Path.{_≡_, _∙_}
+use lib.ListN.{length, take}
 use Rattle.rules.specs.Limits.{profitMost}
 use Rattle.rules.specs.Bag as bag
 use Rattle.choice.proofs.Laws.{sum-more}

@@ -1,7 +1,7 @@
 -- `choice::profit` meets its contract. The invariant: the sum over the first i types. Assumes nothing.
-use Prim.Native.Nat.{ℕ, _+_, _-_, _*_, _≤_, _<_}
+use Prim.Native.Nat.{_+_, _-_, _*_, _≤_}
 use native.Mathlib.Omega.{arith}
-use mathlib.Core.Path.{_≡_, refl, sym, ap, ap₂, _∙_}
+use mathlib.Core.Path.{_≡_, sym, ap, ap₂, _∙_}
 use lib.ListN.{length, getD, take}
 use Rattle.rules.specs.Limits.{profitMost}
 use Rattle.rules.specs.Job.{dot}

@@ -1,7 +1,7 @@
 -- `outline::added` meets its contract. The invariant: below i the sums stand. Assumes nothing.
 use Prim.Native.Nat.{ℕ, _+_, _-_, _%_, _≤_, _<_}
 use native.Mathlib.Omega.{arith}
-use mathlib.Core.Path.{_≡_, refl, sym, ap, _∙_}
+use mathlib.Core.Path.{_≡_, sym, _∙_}
 use lib.ListN.{length, getD, length-set}
 use lib.Seq.{ext-getD}
 use Rattle.outline.proofs.Laws.{grow, length-sums, getD-sums}

@@ -1,7 +1,5 @@
 -- `planning::plan_job` meets its contract: the check of the numbers, and then the plan. Assumes nothing.
-use Prim.Native.Nat.{ℕ, _+_, _-_, _*_, _≤_, _<_}
-use native.Mathlib.Omega.{arith}
-use mathlib.Core.Path.{_≡_, refl, sym, ap, _∙_}
+use mathlib.Core.Path.{_≡_, sym, ap, _∙_}
 use lib.ListN.{length, length-map}
 use Rattle.jobs.specs.Item.{itemPlace}
 use Rattle.planning.proofs.Laws.{refused-item, range-of, in-range-left}

@@ -1,6 +1,4 @@
 -- Laws for the proofs of this crate.
-pub mod Digits
-pub mod Follow
 pub mod Walks
 pub mod Lines
 pub mod Types

@@ -8,8 +8,8 @@ use lib.ListN.{length, take, drop, set, length-set}
 use lib.Seq.{take-suc-set}
 use Rattle.rules.specs.Text.{space, line, byte, Script, num, aLine, someLines, section}
 use Rattle.rules.proofs.Reading.{read, stop}
-use Rattle.reading.specs.Number.{numberAt}
-use Rattle.reading.specs.declared.Numeral.the-variants.{Is, IsNot}
+use Rattle.reader.specs.Number.{numberAt}
+use Rattle.reader.specs.declared.Numeral.the-variants.{Is, IsNot}
 use Rattle.reading.specs.Walked.{Walking, Walked, arrives, leaves, InLine, Passed, InLines}
 use Rattle.reading.specs.declared.Walk.{Walk}
 use Rattle.reading.specs.declared.Walk.the-variants.{To, Stops}

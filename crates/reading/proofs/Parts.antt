@@ -9,8 +9,8 @@ use Rattle.rules.specs.Limits.{typesMost}
 use Rattle.rules.specs.Text.{line, Script, num, aLine, someLines, section}
 use Rattle.rules.proofs.Reading.{read, stop}
 use Rattle.shapes.specs.declared.Job.{Job}
-use Rattle.reading.specs.Number.{numberAt}
-use Rattle.reading.specs.declared.Numeral.the-variants.{Is, IsNot}
+use Rattle.reader.specs.Number.{numberAt}
+use Rattle.reader.specs.declared.Numeral.the-variants.{Is, IsNot}
 use Rattle.reading.specs.declared.Sheet.{Sheet}
 use Rattle.reading.specs.declared.Walk.{Walk}
 use Rattle.reading.specs.declared.Walk.the-variants.{To, Stops}

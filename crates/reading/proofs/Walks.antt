@@ -6,12 +6,12 @@ use native.Mathlib.Omega.{arith}
 use lib.ListN.{drop}
 use Rattle.rules.specs.Text.{End, byte, Script, num}
 use Rattle.rules.proofs.Reading.{Read, stop, read, noted}
-use Rattle.reading.specs.Number.{numberAt}
-use Rattle.reading.specs.declared.Numeral.the-variants.{Is, IsNot}
+use Rattle.reader.specs.Number.{numberAt}
+use Rattle.reader.specs.declared.Numeral.the-variants.{Is, IsNot}
 use Rattle.reading.specs.Walked.{notedAll, Walking, Walked, arrives, leaves}
 use Rattle.reading.specs.declared.Walk.{Walk}
 use Rattle.reading.specs.declared.Walk.the-variants.{To, Stops}
-use Rattle.reading.proofs.Follow.{follow, read-number}
+use Rattle.reader.proofs.Follow.{follow, read-number}
 
 noted-append : (vs ws : List ℕ) (r : Read) → notedAll (vs ++ ws) r ≡ notedAll vs (notedAll ws r)
 noted-append [] ws r = refl

@@ -1,5 +1,4 @@
 -- What the reader answers.
-pub mod Number
 pub mod Walked
 pub mod Pieces
 pub mod Sections

@@ -2,91 +2,30 @@
 // The crate `texts` puts job texts and plan texts together from it; nothing here knows of ranges or of cutting.
 // It promises that each walk goes as the grammar's reading does: on to the place behind what was asked for, or to the place where the text leaves the grammar.
 ghost use mathlib.Core.Path.{_≡_};
-ghost use mathlib.Core.Bool.{_&&_};
 ghost use mathlib.Core.Logic.{_≢_};
 ghost use mathlib.Core.List.{[], _∷_};
-ghost use Prim.Native.Nat.{_-_, _≤_, _<_};
+ghost use Prim.Native.Nat.{_≤_, _<_};
 ghost use lib.ListN.{length, take};
 ghost use Rattle.rules.specs.Limits.{typesMost, piecesMost};
 ghost use Rattle.rules.specs.Text.{aLine, someLines, section};
-ghost use Rattle.rules.proofs.Reading.{isDigit, room};
-ghost use Rattle.reading.specs.Number.{numberAt};
 ghost use Rattle.reading.specs.Walked.{Walked, Passed};
 ghost use Rattle.reading.specs.Sections.{sheetItems, countItems, someSheets, oneSheet, sheetsAndPieces, Part};
 ghost use Rattle.reading.specs.Placements.{numbersOfPlacements, noNumbers, PlacementsRead, PlacementsPart};
 ghost use Rattle.reading.specs.Pieces.{noTypes, noJob, PiecesRead};
-use shapes::DIGITS_MOST;
+use reader::LF;
+use reader::Numeral;
+use reader::SPACE;
+use reader::number_at;
 use shapes::Job;
 use shapes::PIECES_MOST;
 use shapes::PLAN_NUMBERS;
 use shapes::PieceType;
 use shapes::TYPES_MOST;
 
-pub const SPACE: u8 = 32;
-
-pub const LF: u8 = 10;
-
 // Where the reading position has come: behind what was asked for, or to the place where the text leaves the grammar.
 pub enum Walk {
     To(usize),
     Stops(usize),
-}
-
-// A number with the position behind it, or the place where the text leaves the grammar.
-pub enum Numeral {
-    Is(u64, usize),
-    IsNot(usize),
-}
-
-// Whether the byte is a digit that may come after so many digits with this value.
-fn may_follow(b: u8, digits: usize, value: u64) -> bool
-    ensures { λ r. ⌜ r ≡ (isDigit b && room digits value) ⌝ }
-{
-    if b < 48 {
-        return false;
-    }
-    if 58 <= b {
-        return false;
-    }
-    if digits == 0 {
-        return true;
-    }
-    if value == 0 {
-        return false;
-    }
-    digits < DIGITS_MOST
-}
-
-fn digit(b: u8) -> u64
-    requires { ⌜ (48 ≤ b) × (b < 58) ⌝ }
-    ensures { λ r. ⌜ r ≡ b - 48 ⌝ }
-{
-    (b - 48) as u64
-}
-
-// The number that begins at `from` and is ended by the byte `end`.
-pub fn number(text: &[u8], from: usize, end: u8) -> Numeral
-    ensures { λ r. ⌜ r ≡ numberAt end (now (text .entry)) from ⌝ }
-{
-    let mut at = from;
-    let mut digits = 0;
-    let mut value: u64 = 0;
-    while at < text.len() {
-        let b = text[at];
-        if may_follow(b, digits, value) {
-            value = value * 10 + digit(b);
-            digits += 1;
-            at += 1;
-        } else {
-            if b == end {
-                if 0 < digits {
-                    return Numeral::Is(value, at + 1);
-                }
-            }
-            return Numeral::IsNot(at);
-        }
-    }
-    Numeral::IsNot(at)
 }
 
 // The numbers of a line, in front of the array.
@@ -104,7 +43,7 @@ fn line(text: &[u8], from: usize, w: usize) -> LineRead
     let mut at = from;
     let mut j = 0;
     while j + 1 < w {
-        match number(text, at, SPACE) {
+        match number_at(text, at, SPACE) {
             Numeral::IsNot(place) => {
                 return LineRead {
                     walk: Walk::Stops(place),
@@ -118,7 +57,7 @@ fn line(text: &[u8], from: usize, w: usize) -> LineRead
         }
         j += 1;
     }
-    match number(text, at, LF) {
+    match number_at(text, at, LF) {
         Numeral::IsNot(place) => LineRead {
             walk: Walk::Stops(place),
             numbers,
@@ -161,7 +100,7 @@ fn skip_section(text: &[u8], from: usize, w: usize) -> Walk
     requires { ⌜ (0 < w) × (w ≤ 4) ⌝ }
     ensures { λ r. ⌜ Passed (section w) (now (text .entry)) from r ⌝ }
 {
-    match number(text, from, LF) {
+    match number_at(text, from, LF) {
         Numeral::IsNot(place) => Walk::Stops(place),
         Numeral::Is(n, next) => skip_lines(text, next, n, w),
     }
@@ -251,7 +190,7 @@ fn piece_lines(text: &[u8], from: usize, n: usize) -> PieceLines
 fn pieces(text: &[u8], from: usize, sheet: Sheet) -> Sections
     ensures { λ r. ⌜ Part (section 4) (sheetItems sheet) (now (text .entry)) from (r .walk) (r .sheets) (r .job) ⌝ }
 {
-    match number(text, from, LF) {
+    match number_at(text, from, LF) {
         Numeral::IsNot(place) => stopped(place),
         Numeral::Is(count, next) => {
             if count <= TYPES_MOST as u64 {
@@ -351,7 +290,7 @@ fn other_sheets(text: &[u8], from: usize, sheets: u64) -> Sections
 pub fn two_sections(text: &[u8]) -> Sections
     ensures { λ r. ⌜ Part sheetsAndPieces [] (now (text .entry)) 0 (r .walk) (r .sheets) (r .job) ⌝ }
 {
-    match number(text, 0, LF) {
+    match reader::first_count(text) {
         Numeral::IsNot(place) => stopped(place),
         Numeral::Is(sheets, next) => {
             if sheets == 1 {
@@ -446,7 +385,7 @@ fn unlisted(text: &[u8], from: usize, count: u64) -> Placements
 pub fn placement_section(text: &[u8], from: usize) -> Placements
     ensures { λ r. ⌜ PlacementsPart (section 3) [] (now (text .entry)) from (r .walk) (r .count) (r .numbers) ⌝ }
 {
-    match number(text, from, LF) {
+    match number_at(text, from, LF) {
         Numeral::IsNot(place) => no_placements(place),
         Numeral::Is(count, next) => {
             if count <= PIECES_MOST as u64 {

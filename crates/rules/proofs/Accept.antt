@@ -13,7 +13,7 @@ use Rattle.rules.specs.Bag.{tick, count, All, nil, cons}
 use Rattle.rules.specs.Box.{along, across, far, Apart, Disjoint, empty, more, overlap}
 use Rattle.rules.specs.Parted.{CanBeParted}
 use Rattle.rules.specs.Job.{Piece, AtMost, table, types}
-use Rattle.rules.specs.Placed.{Placed, boxes, Of, OnSheet, ofType, Accepted}
+use Rattle.rules.specs.Placed.{Placed, boxes, Of, OnSheet, countsOf, ofType, Accepted}
 use Rattle.rules.specs.Numbers.{Numbers, PieceType, noType, grown, singlesFrom, jobOf, Entry, placed, lying}
 use Rattle.rules.specs.Checker.{CheckAnswer, notAType, offSheet, aboveDemand, overlaps, firstPlace, tests, Found, nothing, found, orElse, firstRefusal, Checked, refusal, not-parted, accepted}
 use Rattle.rules.proofs.Bools.{and-both, both-and, or-false, both-false, not-false}
@@ -229,3 +229,13 @@ accepts-exactly n l a (refusal {number = m} {place = i} e) = (
     never e = let z : _≡_ {A = ℕ} 0 1 = cc in omega arith
 accepts-exactly n l a (not-parted e p) = ((λ z. absurd (omega (arith, z))), (λ h. absurd (p (h .parted))))
 accepts-exactly n l a (accepted e p) = ((λ z. tests-pass n l e p), (λ h. refl))
+
+-- what tests 6, 7 and 8 show, each by itself, where they find nothing
+pub types-kept : (n : Numbers) (l : List Entry) → firstPlace (notAType n) 0 [] l ≡ none → All (λ e. Typed (jobOf n) (e .type)) l
+types-kept n l e = types-ok n (clean (notAType n) 0 [] l e)
+
+pub sheet-kept : (n : Numbers) (l : List Entry) → firstPlace (offSheet n) 0 [] l ≡ none → All (λ e. OnSheet (jobOf n) (placed n e)) l
+sheet-kept n l e = inside-ok n (clean (offSheet n) 0 [] l e)
+
+pub demands-kept : (n : Numbers) (l : List Entry) → firstPlace (aboveDemand n) 0 [] l ≡ none → AtMost (countsOf (jobOf n) (lying n l)) (jobOf n .demands)
+demands-kept n l e = keeps-demand n l (clean (aboveDemand n) 0 [] l e)

@@ -157,12 +157,12 @@ plan-items arena buffer vs r =
         )
 
 -- a job text has the items of all its types
-asked-line : (w : ℕ) (s : Script) {vs : List ℕ} → Asked (aLine w s) vs → (w ≤ length vs) × Asked s (drop w vs)
+pub asked-line : (w : ℕ) (s : Script) {vs : List ℕ} → Asked (aLine w s) vs → (w ≤ length vs) × Asked s (drop w vs)
 asked-line zero s a = (omega arith, a)
 asked-line (suc zero) s (one a) = (omega arith, a)
 asked-line (suc (suc w)) s (one a) = let r = asked-line (suc w) s a in (omega (arith, r .0), r .1)
 
-asked-lines : (n w : ℕ) (s : Script) {vs : List ℕ} → Asked (someLines n w s) vs → n * w ≤ length vs
+pub asked-lines : (n w : ℕ) (s : Script) {vs : List ℕ} → Asked (someLines n w s) vs → n * w ≤ length vs
 asked-lines zero w s a = omega arith
 asked-lines (suc n) w s {vs} a =
     let r = asked-line w (someLines n w s) a in

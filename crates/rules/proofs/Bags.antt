@@ -3,10 +3,10 @@ use mathlib.Core.Path.{_≡_, refl, sym, ap, _∙_, subst}
 use mathlib.Core.Bool.{Bool, true, false, not, _&&_}
 use mathlib.Core.Logic.{_⊎_, inl, inr}
 use mathlib.Core.List.{List, [], _∷_, _++_, map, List·Memᴰ, List·Memᴰ·head, List·Memᴰ·tail, List·Memᴰ·not-nil, List·Memᴰ·cases-cons}
-use Prim.Native.Nat.{ℕ, suc, _+_, _≤_, _<_}
+use Prim.Native.Nat.{ℕ, zero, suc, _+_, _≤_, _<_}
 use native.Mathlib.Nat.{zero-add}
 use native.Mathlib.Omega.{arith}
-use lib.ListN.{length}
+use lib.ListN.{length, getD, set, take, drop}
 use native.Mathlib.Decide.{decLe}
 use Rattle.rules.specs.Bag.{All, Same, Within, always, cons, count, keep, nil, other, prepend, tick}
 
@@ -283,3 +283,29 @@ module _ {A : Type 0} where
     -- what all of a list have, all have in another order
     pub all-same : {P : A → Type 0} (qs : List A) {ps : List A} → Same qs ps → All P ps → All P qs
     all-same qs {ps} s h = all-of qs (λ a m. all-at h (count-some a ps (omega (arith, s (same a), some-count m))))
+
+-- all of a list by their places; d is what stands past the end
+module _ {A : Type 0} {P : A → Type 0} where
+  pub all-index : (d : A) {l : List A} → All P l → (i : ℕ) → i < length l → P (getD l i d)
+  all-index d nil i h = absurd (omega arith)
+  all-index d (cons p a) zero h = p
+  all-index d (cons p a) (suc i) h = all-index d a i (omega arith)
+
+  pub index-all : (d : A) (l : List A) → ((i : ℕ) → i < length l → P (getD l i d)) → All P l
+  index-all d [] f = nil
+  index-all d (a ∷ l) f = cons (f 0 (omega arith)) (index-all d l (λ i h. f (suc i) (omega arith)))
+
+  pub all-set : {l : List A} (i : ℕ) {a : A} → All P l → P a → All P (set l i a)
+  all-set i nil p = nil
+  all-set zero (cons q a) p = cons p a
+  all-set (suc i) (cons q a) p = cons q (all-set i a p)
+
+  pub all-take : (k : ℕ) {l : List A} → All P l → All P (take k l)
+  all-take zero a = nil
+  all-take (suc k) nil = nil
+  all-take (suc k) (cons p a) = cons p (all-take k a)
+
+  pub all-drop : (k : ℕ) {l : List A} → All P l → All P (drop k l)
+  all-drop zero a = a
+  all-drop (suc k) nil = nil
+  all-drop (suc k) (cons p a) = all-drop k a

@@ -23,7 +23,7 @@ pub accepted-taken : {n : Numbers} {l : List Entry} → Accepted (jobOf n) (lyin
 accepted-taken {n} {l} a = accepted (accepted-passes n l a) (a .parted)
 
 -- what an accepting answer says a list earns
-earns : {n : Numbers} {l : List Entry} {a : CheckAnswer} → Checked n l a → a .number ≡ 0 → a .profit ≡ worth (jobOf n) (lying n l)
+pub earns : {n : Numbers} {l : List Entry} {a : CheckAnswer} → Checked n l a → a .number ≡ 0 → a .profit ≡ worth (jobOf n) (lying n l)
 earns {n} {l} (refusal e) z = absurd (omega (arith, refusal-number n l e, z))
 earns (not-parted e p) z = absurd (omega (arith, z))
 earns (accepted e p) z = refl

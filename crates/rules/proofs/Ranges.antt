@@ -98,7 +98,7 @@ pub positive : {n : Numbers} → InRange n → All Positive (jobOf n .singles)
 positive {n} r = positive-from (n .kerf) 1 (r .types)
 
 -- a job handed over: its types up to the count are read, and no others
-length-items : (ps : List PieceType) → length (typeItems ps) ≡ 4 * length ps
+pub length-items : (ps : List PieceType) → length (typeItems ps) ≡ 4 * length ps
 length-items [] = refl
 length-items (p ∷ ps) = omega (arith, length-items ps)
 

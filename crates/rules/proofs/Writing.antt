@@ -3,7 +3,7 @@ use mathlib.Core.Path.{_≡_, refl, sym, ap, _∙_, subst}
 use mathlib.Core.Bool.{Bool, true, false}
 use mathlib.Core.List.{List, [], _∷_, _++_}
 use Prim.Native.Nat.{ℕ, zero, suc, _+_, _*_, _/_, _%_, _^_, _≤_, _<_}
-use native.Mathlib.Nat.{pow-le-pow-right}
+use native.Mathlib.Nat.{pow-le-pow-right, suc-mul}
 use native.Mathlib.Omega.{arith}
 use native.Mathlib.Decide.{decLt}
 use lib.ListN.{length, length-append}
@@ -124,3 +124,23 @@ read-back x a y = text-once y (spelled-text x a)
 pub text-asked : {s : Script} {t vs : List ℕ} → Text s t vs → Asked s vs
 text-asked done = none
 text-asked (after p l x) = one (text-asked x)
+
+pub spelled-asked : {s : Script} {t vs : List ℕ} → Spelled s t vs → Asked s vs
+spelled-asked printed.done = none
+spelled-asked (printed.after p x) = one (spelled-asked x)
+
+-- how long a number can be, and a text of numbers each with the byte behind it
+pub digits-at-most : {ds : List ℕ} {v : ℕ} (k : ℕ) → 0 < k → v < 10 ^ k → Decimal ds v → length ds ≤ k
+digits-at-most {ds} {v} k z h p = go (decLt k (length ds)) (decLt 0 v)
+  where
+    go : Dec (k < length ds) → Dec (0 < v) → length ds ≤ k
+    go (no n) b = omega arith
+    go (yes n) (yes b) = absurd (omega (arith, decimal-above p b, tens (suc k) (length ds) n))
+    go (yes n) (no b) = absurd (omega (arith, zero-digits p (omega arith)))
+
+pub spelled-at-most : {s : Script} {t vs : List ℕ} (k : ℕ) → 0 < k → All (λ v. v < 10 ^ k) vs → Spelled s t vs → length t ≤ length vs * suc k
+spelled-at-most k z a printed.done = omega arith
+spelled-at-most k z (cons h a) (printed.after {e = e} {ds = ds} {t = t} {vs = vs} p x) =
+    let d = digits-at-most k z h p in
+    let r = spelled-at-most k z a x in
+    omega (arith, length-append ds (byte e ∷ t), suc-mul (length vs) (suc k))

@@ -33,6 +33,12 @@ pub const PROGRAM_RECORDS: usize = 2_000;
 // The flat numbers of the longest plan.
 pub const PLAN_NUMBERS: usize = PIECES_MOST * PLACEMENT_NUMBERS;
 
+// One byte more than a program's input may have, so that a longer one is seen.
+pub const INPUT_ROOM: usize = INPUT_MOST + 1;
+
+// The bytes of a program's arena.
+pub const PROGRAM_ARENA: usize = PROGRAM_RECORDS * RECORD_BYTES;
+
 // A piece type: a line `l w p b`.
 pub struct PieceType {
     pub length: u64,

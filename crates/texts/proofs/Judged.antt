@@ -24,7 +24,7 @@ none-some : {A : Type 0} {i : ℕ} → _≡_ {A = Option ℕ} none (some i) → 
 none-some e = absurd (let z : _≡_ {A = ℕ} 0 1 = cc in omega arith)
 
 -- what the first items decide, no item behind them changes
-out-early : (i : ℕ) (rs : List Range) (vs ws : List ℕ) {k : ℕ} → firstOut i rs vs ≡ some k → firstOut i rs (vs ++ ws) ≡ some k
+pub out-early : (i : ℕ) (rs : List Range) (vs ws : List ℕ) {k : ℕ} → firstOut i rs vs ≡ some k → firstOut i rs (vs ++ ws) ≡ some k
 out-early i [] vs ws e = none-some e
 out-early i (r ∷ rs) [] ws e = none-some e
 out-early i (r ∷ rs) (v ∷ vs) ws {k} e = go (leb (r .low) v && leb v (r .high)) refl (out-early (suc i) rs vs ws) e

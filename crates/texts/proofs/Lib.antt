@@ -4,3 +4,6 @@ pub mod Judged
 pub mod JobTexts
 pub mod Copied
 pub mod PlanTexts
+pub mod Once
+pub mod Behind
+pub mod Refusals

@@ -147,9 +147,9 @@ fn plan_behind(text: &[u8], from: usize, sheets: u64, job: Job, buffer: &mut [u6
     let walk = list.walk;
     match walk {
         Walk::Stops(place) => refused_plan(Refusal::NotInGrammar(place)),
-        Walk::To(next) => {
-            if next < text.len() {
-                return refused_plan(Refusal::NotInGrammar(next));
+        Walk::To(last) => {
+            if last < text.len() {
+                return refused_plan(Refusal::NotInGrammar(last));
             }
             let numbers = list.numbers;
             judged_plan(sheets, job, list.count, &numbers, buffer)

@@ -19,8 +19,8 @@ loop-holds c = in-line-start _ _ _ _ (c .before .pre .0) refl
 add-loop : tie.Need-add-loop Inv-loop μ-loop
 add-loop c = search needs
 
-number-requires : tie.Need-number-requires Inv-loop μ-loop
-number-requires c κs = search needs
+number-at-requires : tie.Need-number-at-requires Inv-loop μ-loop
+number-at-requires c κs = search needs
 
 enum-known-place : tie.Need-enum-known-place Inv-loop μ-loop
 enum-known-place c = search needs
@@ -29,7 +29,7 @@ returns : tie.Need-returns Inv-loop μ-loop
 returns c =
     let n = c .before .before .before in
     let l = n .before .before in
-    in-line-stops (l .loop .inv) (l .before .before .pre .1) (n .before .loop-test .taken) (c .before .place .given .0 .0) (sym (n .number .ensures) ∙ c .before .place .given .1) _
+    in-line-stops (l .loop .inv) (l .before .before .pre .1) (n .before .loop-test .taken) (c .before .place .given .0 .0) (sym (n .number-at .ensures) ∙ c .before .place .given .1) _
 
 enum-known-v : tie.Need-enum-known-v Inv-loop μ-loop
 enum-known-v c = search needs
@@ -50,10 +50,10 @@ loop-again : tie.Need-loop-again Inv-loop μ-loop
 loop-again c =
     let n = c .before .before .before in
     let l = n .before .before in
-    in-line-next (l .loop .inv) (l .before .before .pre .1) (n .before .loop-test .taken) (c .before .v .given .0 .0) (c .before .v .given .0 .1 .0) (sym (n .number .ensures) ∙ c .before .v .given .1)
+    in-line-next (l .loop .inv) (l .before .before .pre .1) (n .before .loop-test .taken) (c .before .v .given .0 .0) (c .before .v .given .0 .1 .0) (sym (n .number-at .ensures) ∙ c .before .v .given .1)
 
-number-requires-2 : tie.Need-number-requires-2 Inv-loop μ-loop
-number-requires-2 c κs = search needs
+number-at-requires-2 : tie.Need-number-at-requires-2 Inv-loop μ-loop
+number-at-requires-2 c κs = search needs
 
 enum-known-place-2 : tie.Need-enum-known-place-2 Inv-loop μ-loop
 enum-known-place-2 c = search needs
@@ -71,13 +71,13 @@ returns-2 : tie.Need-returns-2 Inv-loop μ-loop
 returns-2 c =
     let n = c .before .before .before in
     let l = n .before .before in
-    last-stops (l .loop .inv) (l .before .before .pre .1) (n .before .loop-test .left) (c .before .place2 .given .0 .0) (sym (n .number2 .ensures) ∙ c .before .place2 .given .1) _
+    last-stops (l .loop .inv) (l .before .before .pre .1) (n .before .loop-test .left) (c .before .place2 .given .0 .0) (sym (n .number-at2 .ensures) ∙ c .before .place2 .given .1) _
 
 returns-3 : tie.Need-returns-3 Inv-loop μ-loop
 returns-3 c =
     let n = c .before .before .before in
     let l = n .before .before in
-    last-is (l .loop .inv) (l .before .before .pre .1) (n .before .loop-test .left) (c .before .v2 .given .0 .0) (c .before .v2 .given .0 .1 .0) (sym (n .number2 .ensures) ∙ c .before .v2 .given .1)
+    last-is (l .loop .inv) (l .before .before .pre .1) (n .before .loop-test .left) (c .before .v2 .given .0 .0) (c .before .v2 .given .0 .1 .0) (sym (n .number-at2 .ensures) ∙ c .before .v2 .given .1)
 
 pub line-spec : {M : Type 1} → statement M
 line-spec =
@@ -87,7 +87,7 @@ line-spec =
     μ-loop
     loop-holds
     add-loop
-    number-requires
+    number-at-requires
     enum-known-place
     returns
     enum-known-v
@@ -96,7 +96,7 @@ line-spec =
     add-j
     loop-less
     loop-again
-    number-requires-2
+    number-at-requires-2
     enum-known-place-2
     enum-known-v-2
     mul-numbers-2

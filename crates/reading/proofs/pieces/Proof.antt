@@ -6,8 +6,8 @@ use borrow.Author.Needs.{needs}
 use Rattle.reading.proofs.pieces.Statement.{statement}
 use Rattle.reading.proofs.pieces.Tie as tie
 
-number-requires : tie.Need-number-requires
-number-requires c κs = search needs
+number-at-requires : tie.Need-number-at-requires
+number-at-requires c κs = search needs
 
 enum-known-place : tie.Need-enum-known-place
 enum-known-place c = search needs
@@ -24,7 +24,7 @@ counted-pieces-requires c κs = search needs
 returns : tie.Need-returns
 returns c =
     let v = c .before .before .before in
-    part-behind (count-walk _ _ (v .count .given .0 .0) (v .count .given .0 .1 .0) (λ n. someLines n 4) (sym (v .before .before .number .ensures) ∙ v .count .given .1)) refl (c .counted-pieces .ensures)
+    part-behind (count-walk _ _ (v .count .given .0 .0) (v .count .given .0 .1 .0) (λ n. someLines n 4) (sym (v .before .before .number-at .ensures) ∙ v .count .given .1)) refl (c .counted-pieces .ensures)
 
 more-pieces-requires : tie.Need-more-pieces-requires
 more-pieces-requires c κs = search needs
@@ -33,18 +33,18 @@ returns-2 : tie.Need-returns-2
 returns-2 c =
     let v = c .before .before in
     let a = v .before .before .before .before in
-    part-stops (c .stopped .ensures .0) (count-stops (a .args .text .now) (a .args .from) (v .place .given .0 .0) (λ n. someLines n 4) (sym (v .before .before .number .ensures) ∙ v .place .given .1))
+    part-stops (c .stopped .ensures .0) (count-stops (a .args .text .now) (a .args .from) (v .place .given .0 .0) (λ n. someLines n 4) (sym (v .before .before .number-at .ensures) ∙ v .place .given .1))
 
 returns-3 : tie.Need-returns-3
 returns-3 c =
     let v = c .before .before .before in
-    part-behind (count-walk _ _ (v .count .given .0 .0) (v .count .given .0 .1 .0) (λ n. someLines n 4) (sym (v .before .before .number .ensures) ∙ v .count .given .1)) refl (c .more-pieces .ensures)
+    part-behind (count-walk _ _ (v .count .given .0 .0) (v .count .given .0 .1 .0) (λ n. someLines n 4) (sym (v .before .before .number-at .ensures) ∙ v .count .given .1)) refl (c .more-pieces .ensures)
 
 pub pieces-spec : {M : Type 1} → statement M
 pieces-spec =
     tie.close
     (tie.spec
-    number-requires
+    number-at-requires
     enum-known-place
     stopped-requires
     enum-known-count

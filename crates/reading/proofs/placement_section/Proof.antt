@@ -7,8 +7,8 @@ use borrow.Author.Needs.{needs}
 use Rattle.reading.proofs.placement_section.Statement.{statement}
 use Rattle.reading.proofs.placement_section.Tie as tie
 
-number-requires : tie.Need-number-requires
-number-requires c κs = search needs
+number-at-requires : tie.Need-number-at-requires
+number-at-requires c κs = search needs
 
 enum-known-place : tie.Need-enum-known-place
 enum-known-place c = search needs
@@ -25,7 +25,7 @@ listed-requires c κs = search needs
 returns : tie.Need-returns
 returns c =
     let v = c .before .before .before in
-    placements-behind (count-walk _ _ (v .count .given .0 .0) (v .count .given .0 .1 .0) (λ n. someLines n 3) (sym (v .before .before .number .ensures) ∙ v .count .given .1)) refl (c .listed .ensures)
+    placements-behind (count-walk _ _ (v .count .given .0 .0) (v .count .given .0 .1 .0) (λ n. someLines n 3) (sym (v .before .before .number-at .ensures) ∙ v .count .given .1)) refl (c .listed .ensures)
 
 unlisted-requires : tie.Need-unlisted-requires
 unlisted-requires c κs = search needs
@@ -34,18 +34,18 @@ returns-2 : tie.Need-returns-2
 returns-2 c =
     let v = c .before .before in
     let a = v .before .before .before .before in
-    placements-stop (c .no-placements .ensures .0) (c .no-placements .ensures .1) (c .no-placements .ensures .2) (count-stops (a .args .text .now) (a .args .from) (v .place .given .0 .0) (λ n. someLines n 3) (sym (v .before .before .number .ensures) ∙ v .place .given .1))
+    placements-stop (c .no-placements .ensures .0) (c .no-placements .ensures .1) (c .no-placements .ensures .2) (count-stops (a .args .text .now) (a .args .from) (v .place .given .0 .0) (λ n. someLines n 3) (sym (v .before .before .number-at .ensures) ∙ v .place .given .1))
 
 returns-3 : tie.Need-returns-3
 returns-3 c =
     let v = c .before .before .before in
-    placements-behind (count-walk _ _ (v .count .given .0 .0) (v .count .given .0 .1 .0) (λ n. someLines n 3) (sym (v .before .before .number .ensures) ∙ v .count .given .1)) refl (c .unlisted .ensures)
+    placements-behind (count-walk _ _ (v .count .given .0 .0) (v .count .given .0 .1 .0) (λ n. someLines n 3) (sym (v .before .before .number-at .ensures) ∙ v .count .given .1)) refl (c .unlisted .ensures)
 
 pub placement-section-spec : {M : Type 1} → statement M
 placement-section-spec =
     tie.close
     (tie.spec
-    number-requires
+    number-at-requires
     enum-known-place
     no-placements-requires
     enum-known-count

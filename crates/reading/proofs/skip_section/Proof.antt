@@ -5,8 +5,8 @@ use borrow.Author.Needs.{needs}
 use Rattle.reading.proofs.skip_section.Statement.{statement}
 use Rattle.reading.proofs.skip_section.Tie as tie
 
-number-requires : tie.Need-number-requires
-number-requires c κs = search needs
+number-at-requires : tie.Need-number-at-requires
+number-at-requires c κs = search needs
 
 enum-known-place : tie.Need-enum-known-place
 enum-known-place c = search needs
@@ -18,14 +18,14 @@ skip-lines-requires : tie.Need-skip-lines-requires
 skip-lines-requires c κs = search needs
 
 returns : tie.Need-returns
-returns c = section-stops _ _ _ (c .before .place .given .0 .0) (sym (c .before .before .before .number .ensures) ∙ c .before .place .given .1)
+returns c = section-stops _ _ _ (c .before .place .given .0 .0) (sym (c .before .before .before .number-at .ensures) ∙ c .before .place .given .1)
 
 returns-2 : tie.Need-returns-2
 returns-2 c =
     let v = c .before .before in
-    section-passed _ _ _ (v .n .given .0 .0) (v .n .given .0 .1 .0) (sym (v .before .before .number .ensures) ∙ v .n .given .1) (c .skip-lines .ensures)
+    section-passed _ _ _ (v .n .given .0 .0) (v .n .given .0 .1 .0) (sym (v .before .before .number-at .ensures) ∙ v .n .given .1) (c .skip-lines .ensures)
 
 pub skip-section-spec : {M : Type 1} → statement M
 skip-section-spec =
     tie.close
-    (tie.spec number-requires enum-known-place enum-known-n skip-lines-requires returns returns-2)
+    (tie.spec number-at-requires enum-known-place enum-known-n skip-lines-requires returns returns-2)

@@ -6,8 +6,8 @@ use borrow.Author.Needs.{needs}
 use Rattle.reading.proofs.two_sections.Statement.{statement}
 use Rattle.reading.proofs.two_sections.Tie as tie
 
-number-requires : tie.Need-number-requires
-number-requires c κs = search needs
+first-count-requires : tie.Need-first-count-requires
+first-count-requires c κs = search needs
 
 enum-known-place : tie.Need-enum-known-place
 enum-known-place c = search needs
@@ -24,7 +24,7 @@ one-sheet-requires c κs = search needs
 returns : tie.Need-returns
 returns c =
     let v = c .before .before .before in
-    part-behind (count-walk _ 0 (v .sheets .given .0 .0) (v .sheets .given .0 .1 .0) someSheets (sym (v .before .before .number .ensures) ∙ v .sheets .given .1)) refl (one-of (c .before .if1 .taken) (c .one-sheet .ensures))
+    part-behind (count-walk _ 0 (v .sheets .given .0 .0) (v .sheets .given .0 .1 .0) someSheets (sym (v .before .before .first-count .ensures) ∙ v .sheets .given .1)) refl (one-of (c .before .if1 .taken) (c .one-sheet .ensures))
 
 other-sheets-requires : tie.Need-other-sheets-requires
 other-sheets-requires c κs = search needs
@@ -33,18 +33,18 @@ returns-2 : tie.Need-returns-2
 returns-2 c =
     let v = c .before .before in
     let a = v .before .before .before .before in
-    part-stops (c .stopped .ensures .0) (count-stops (a .args .text .now) 0 (v .place .given .0 .0) someSheets (sym (v .before .before .number .ensures) ∙ v .place .given .1))
+    part-stops (c .stopped .ensures .0) (count-stops (a .args .text .now) 0 (v .place .given .0 .0) someSheets (sym (v .before .before .first-count .ensures) ∙ v .place .given .1))
 
 returns-3 : tie.Need-returns-3
 returns-3 c =
     let v = c .before .before .before in
-    part-behind (count-walk _ 0 (v .sheets .given .0 .0) (v .sheets .given .0 .1 .0) someSheets (sym (v .before .before .number .ensures) ∙ v .sheets .given .1)) refl (c .other-sheets .ensures)
+    part-behind (count-walk _ 0 (v .sheets .given .0 .0) (v .sheets .given .0 .1 .0) someSheets (sym (v .before .before .first-count .ensures) ∙ v .sheets .given .1)) refl (c .other-sheets .ensures)
 
 pub two-sections-spec : {M : Type 1} → statement M
 two-sections-spec =
     tie.close
     (tie.spec
-    number-requires
+    first-count-requires
     enum-known-place
     stopped-requires
     enum-known-sheets

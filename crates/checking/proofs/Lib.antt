@@ -1,0 +1,3 @@
+-- The laws behind the proofs of the functions.
+pub mod Verdict
+pub mod Meaning

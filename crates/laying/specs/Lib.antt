@@ -1,0 +1,2 @@
+-- The boxes of a list.
+pub mod Laid

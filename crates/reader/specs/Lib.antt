@@ -1,0 +1,2 @@
+-- The number at a place of a text.
+pub mod Number

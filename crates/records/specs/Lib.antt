@@ -1,0 +1,2 @@
+-- What a scan of records keeps.
+pub mod Scan

@@ -25,7 +25,7 @@ use Rattle.shapes.specs.declared.Job.{Job}
 use Rattle.shapes.specs.Handed.{numbersOf}
 use Rattle.outline.specs.declared.Outline.{Outline}
 use Rattle.outline.specs.declared.Way as code
-use Rattle.outline.specs.Stands.{JobInRange, jobFor, pieceAt, outlineOf, wayOf, Few, Joins, Alone}
+use Rattle.outline.specs.Stands.{JobInRange, jobFor, pieceAt, outlineOf, wayOf, Few, Joins, Alone, twoBytes}
 use Rattle.outline.proofs.Laws.{count-types, fits-few}
 use Rattle.arena.specs.declared.How.the-variants.{Piece, Joined}
 use Rattle.arena.specs.declared.Record.{Record}
@@ -205,11 +205,11 @@ module _ (job : Job) (s : List ℕ) (n i q : ℕ) (k : Joinable job s n i q) (w 
         second = second w;
       }
     where
-      first : (w : code.Way) → linkOf (Joined w i q) .first < 65536
+      first : (w : code.Way) → linkOf (Joined w i q) .first < twoBytes
       first Beside = omega (arith, k .one, k .ready .held .room)
       first Above = omega (arith, k .one, k .ready .held .room)
 
-      second : (w : code.Way) → linkOf (Joined w i q) .second < 65536
+      second : (w : code.Way) → linkOf (Joined w i q) .second < twoBytes
       second Beside = omega (arith, k .other, k .ready .held .room)
       second Above = omega (arith, k .other, k .ready .held .room)
 

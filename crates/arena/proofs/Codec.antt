@@ -1,11 +1,11 @@
 -- The laws of the codec: a record that is written is read back, field by field. Assumes nothing.
 use mathlib.Core.Path.{_≡_, refl, sym, ap, _∙_}
-use mathlib.Core.Bool.{Bool, true, false, _&&_}
+use mathlib.Core.Bool.{true, false}
 use mathlib.Core.List.{List, [], _∷_, _++_, append-nil}
 use Prim.Native.Nat.{ℕ, zero, suc, _+_, _*_, _-_, _/_, _%_, _≤_, _<_}
 use native.Mathlib.Omega.{arith}
 use lib.Dec.{eqb}
-use lib.ListN.{length, getD, set, take, drop, replicate, length-set, length-take, length-drop, length-append, length-replicate, drop-of-length-le}
+use lib.ListN.{length, getD, set, take, drop, replicate, length-set, length-take, length-drop, length-append, drop-of-length-le}
 use lib.Seq.{take-at, drop-at, getD-append-add}
 use borrow.Author.Tests.{eq-eqb, ne-eqb}
 use Rattle.rules.specs.Limits.{typesMost, recordBytes}
@@ -16,8 +16,8 @@ use Rattle.arena.specs.declared.How.{How}
 use Rattle.arena.specs.declared.How.the-variants.{Piece, Joined}
 use Rattle.arena.specs.declared.Link.{Link}
 use Rattle.arena.specs.declared.Record.{Record}
-use Rattle.outline.specs.Stands.{Sized}
-use Rattle.arena.specs.Bytes.{word, putWord, two, linkOf, howOf, behind, encode, decode}
+use Rattle.outline.specs.Stands.{Sized, twoBytes}
+use Rattle.arena.specs.Bytes.{word, putWord, two, linkOf, howOf, behind, encode, decode, lengthAt, widthAt, firstAt, secondAt, kindAt}
 use Rattle.arena.specs.Records.{Loaded}
 
 pub length-put : (s : List ℕ) (at v : ℕ) → length (putWord s at v) ≡ length s
@@ -39,7 +39,7 @@ how-back (Joined Beside a b) = refl
 how-back (Joined Above a b) = refl
 
 -- a number that two bytes hold
-low-high : (v : ℕ) → v < 65536 → v % 256 + 256 * (v / 256 % 256) ≡ v
+low-high : (v : ℕ) → v < twoBytes → v % 256 + 256 * (v / 256 % 256) ≡ v
 low-high v h = omega arith
 
 module _ (r : Record) (hc : length (r .outline .counts) ≡ typesMost) where
@@ -49,30 +49,30 @@ module _ (r : Record) (hc : length (r .outline .counts) ≡ typesMost) where
   abbrev t : List ℕ
   t = behind (r .outline .length .0) (r .outline .width .0) (linkOf (r .how))
 
-  kind-back : getD (c ++ t) 20 0 ≡ linkOf (r .how) .kind
+  kind-back : getD (c ++ t) kindAt 0 ≡ linkOf (r .how) .kind
   unfolding behind
   kind-back = ap (λ n. getD (c ++ t) (n + 8) 0) (sym hc) ∙ getD-append-add c t 8 0
 
-  long-back : Sized (r .outline) → word (c ++ t) 12 ≡ r .outline .length .0
+  long-back : Sized (r .outline) → word (c ++ t) lengthAt ≡ r .outline .length .0
   unfolding behind word
   long-back z = word-behind c t 0 hc ∙ low-high _ (z .long)
 
-  wide-back : Sized (r .outline) → word (c ++ t) 14 ≡ r .outline .width .0
+  wide-back : Sized (r .outline) → word (c ++ t) widthAt ≡ r .outline .width .0
   unfolding behind word
   wide-back z = word-behind c t 2 hc ∙ low-high _ (z .wide)
 
-  first-back : linkOf (r .how) .first < 65536 → word (c ++ t) 16 ≡ linkOf (r .how) .first
+  first-back : linkOf (r .how) .first < twoBytes → word (c ++ t) firstAt ≡ linkOf (r .how) .first
   unfolding behind word
   first-back h = word-behind c t 4 hc ∙ low-high _ h
 
-  second-back : linkOf (r .how) .second < 65536 → word (c ++ t) 18 ≡ linkOf (r .how) .second
+  second-back : linkOf (r .how) .second < twoBytes → word (c ++ t) secondAt ≡ linkOf (r .how) .second
   unfolding behind word
   second-back h = word-behind c t 6 hc ∙ low-high _ h
 
-  pub decode-encode : Sized (r .outline) → linkOf (r .how) .first < 65536 → linkOf (r .how) .second < 65536 → decode (encode r) ≡ r
+  pub decode-encode : Sized (r .outline) → linkOf (r .how) .first < twoBytes → linkOf (r .how) .second < twoBytes → decode (encode r) ≡ r
   unfolding decode encode
   decode-encode z hf hs =
-      let link : howOf (record { kind = getD (c ++ t) 20 0; first = word (c ++ t) 16; second = word (c ++ t) 18 }) ≡ r .how = (λ i. howOf (record { kind = kind-back i; first = first-back hf i; second = second-back hs i })) ∙ how-back (r .how) in
+      let link : howOf (record { kind = getD (c ++ t) kindAt 0; first = word (c ++ t) firstAt; second = word (c ++ t) secondAt }) ≡ r .how = (λ i. howOf (record { kind = kind-back i; first = first-back hf i; second = second-back hs i })) ∙ how-back (r .how) in
       λ i. record {
         outline = record { length = record { 0 = long-back z i }; width = record { 0 = wide-back z i }; counts = take-at c t typesMost hc i };
         how = link i;
@@ -130,14 +130,14 @@ same-all (suc n) (x ∷ a) [] l m p = absurd (omega arith)
 same-all (suc n) (x ∷ a) (y ∷ b) l m p = both-and (eq-eqb x y (p 0 (omega arith))) (same-all n a b (omega arith) (omega arith) (λ i h. p (suc i) (omega arith)))
 
 -- what stands behind the counts is written behind them
-pub put-behind : (c d b : List ℕ) → length c ≡ 12 → length d ≡ 20 → take 12 (c ++ d) ++ (b ++ drop (length (c ++ d) - 12) (drop 12 (c ++ d))) ≡ c ++ b
+pub put-behind : (c d b : List ℕ) → length c ≡ typesMost → length d ≡ 20 → take typesMost (c ++ d) ++ (b ++ drop (length (c ++ d) - typesMost) (drop typesMost (c ++ d))) ≡ c ++ b
 put-behind c d b hc hd =
-    let e : length (c ++ d) - 12 ≡ 20 = let l = length-append c d in omega arith in
+    let e : length (c ++ d) - typesMost ≡ 20 = let l = length-append c d in omega arith in
     let none : drop 20 d ≡ [] = drop-of-length-le d {i = 20} (omega arith) in
-    rw (take-at c d 12 hc, drop-at c d 12 hc, e, none) (simp append-nil)
+    rw (take-at c d typesMost hc, drop-at c d typesMost hc, e, none) (simp append-nil)
 
 -- a record that is read has sizes of two bytes
-pub loaded : (s : List ℕ) (c : List ℕ) (l w : ℕ) (h : How) → c ≡ take typesMost s → (l ≡ word s 12) × (l < 65536) → (w ≡ word s 14) × (w < 65536) → h ≡ howOf (record { kind = getD s 20 0; first = word s 16; second = word s 18 }) → Loaded (decode s) (record { outline = record { length = record { 0 = l }; width = record { 0 = w }; counts = c }; how = h })
+pub loaded : (s : List ℕ) (c : List ℕ) (l w : ℕ) (h : How) → c ≡ take typesMost s → (l ≡ word s lengthAt) × (l < twoBytes) → (w ≡ word s widthAt) × (w < twoBytes) → h ≡ howOf (record { kind = getD s kindAt 0; first = word s firstAt; second = word s secondAt }) → Loaded (decode s) (record { outline = record { length = record { 0 = l }; width = record { 0 = w }; counts = c }; how = h })
 unfolding decode
 loaded s c l w h ec el ew eh = record {
   is = λ i. record { outline = record { length = record { 0 = el .0 i }; width = record { 0 = ew .0 i }; counts = ec i }; how = eh i };

@@ -1,17 +1,17 @@
 -- The arena as a list of records: writing one more, and reading what stands. Assumes nothing.
 use mathlib.Core.Path.{_≡_, refl, sym, ap, _∙_, subst}
 use mathlib.Core.List.{List, [], _∷_, _++_}
-use Prim.Native.Nat.{ℕ, zero, suc, _+_, _*_, _/_, _≤_, _<_}
+use Prim.Native.Nat.{ℕ, zero, suc, _+_, _*_, _≤_, _<_}
 use native.Mathlib.Omega.{arith}
 use native.Mathlib.Numerals.{add-one}
 use native.Mathlib.Decide.{ℕ-discrete}
-use lib.ListN.{length, getD, take, drop, length-take, length-drop, length-append, List·getD-append}
+use lib.ListN.{length, take, drop, length-take, length-drop, length-append, List·getD-append}
 use lib.Seq.{take-at, drop-at, length-take-le, ext-getD, getD-take, getD-drop, getD-at}
 use Rattle.rules.specs.Limits.{typesMost, recordBytes}
 use Rattle.rules.specs.Planner.{roomOf}
-use Rattle.rules.proofs.Unfold.{Rec, noRec, at}
+use Rattle.rules.proofs.Unfold.{noRec, at}
 use Rattle.arena.specs.declared.Record.{Record}
-use Rattle.arena.specs.Bytes.{linkOf, encode, decode, chunk, putChunk}
+use Rattle.arena.specs.Bytes.{encode, decode, chunk, putChunk}
 use Rattle.arena.specs.Records.{recordAt, recOf, recs, Storable, Stored}
 use Rattle.arena.proofs.Codec.{decode-encode, length-encode}
 
@@ -27,17 +27,17 @@ module _ (s : List ℕ) (i : ℕ) (c : List ℕ) (room : i * recordBytes + recor
   chunk-put-same : chunk (putChunk s i c) i ≡ c
   unfolding chunk putChunk
   chunk-put-same =
-      rw (drop-at (take (i * 32) s) (c ++ drop 32 (drop (i * 32) s)) (i * 32) (length-take-le (i * 32) s (omega arith)), take-at c (drop 32 (drop (i * 32) s)) 32 hc)
+      rw (drop-at (take (i * recordBytes) s) (c ++ drop recordBytes (drop (i * recordBytes) s)) (i * recordBytes) (length-take-le (i * recordBytes) s (omega arith)), take-at c (drop recordBytes (drop (i * recordBytes) s)) recordBytes hc)
 
   chunk-put-before : (j : ℕ) → j < i → chunk (putChunk s i c) j ≡ chunk s j
   unfolding chunk putChunk
   chunk-put-before j h =
       let lp : length (putChunk s i c) ≡ length s = length-putChunk in
       ext-getD 0 _ _ (simp (length-take, length-drop) (omega arith)) λ k hk.
-      let b : k < 32 = omega (arith, length-take 32 (drop (j * 32) (putChunk s i c))) in
-      let m : j * 32 + k < i * 32 = omega arith in
-      rw (getD-take 32 (drop (j * 32) (putChunk s i c)) k 0 b, getD-drop (j * 32) (putChunk s i c) k 0, getD-take 32 (drop (j * 32) s) k 0 b, getD-drop (j * 32) s k 0)
-      (List·getD-append (take (i * 32) s) (c ++ drop 32 (drop (i * 32) s)) 0 (j * 32 + k) (simp length-take (omega arith)) ∙ getD-take (i * 32) s (j * 32 + k) 0 m)
+      let b : k < recordBytes = omega (arith, length-take recordBytes (drop (j * recordBytes) (putChunk s i c))) in
+      let m : j * recordBytes + k < i * recordBytes = omega arith in
+      rw (getD-take recordBytes (drop (j * recordBytes) (putChunk s i c)) k 0 b, getD-drop (j * recordBytes) (putChunk s i c) k 0, getD-take recordBytes (drop (j * recordBytes) s) k 0 b, getD-drop (j * recordBytes) s k 0)
+      (List·getD-append (take (i * recordBytes) s) (c ++ drop recordBytes (drop (i * recordBytes) s)) 0 (j * recordBytes + k) (simp length-take (omega arith)) ∙ getD-take (i * recordBytes) s (j * recordBytes + k) 0 m)
 
 -- writing a record
 pub stored : (s t : List ℕ) (i : ℕ) (r : Record) → Storable s i r → length (r .outline .counts) ≡ typesMost → t ≡ putChunk s i (encode r) → Stored i r s t

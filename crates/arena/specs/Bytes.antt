@@ -1,6 +1,5 @@
 -- The 32 bytes of a record. Assumes nothing.
-use mathlib.Core.Bool.{Bool, true, false}
-use mathlib.Core.List.{List, [], _∷_, _++_}
+use mathlib.Core.List.{List, _∷_, _++_}
 use Prim.Native.Nat.{ℕ, _+_, _*_, _/_, _%_}
 use lib.Dec.{eqb}
 use lib.ListN.{getD, set, take, drop, replicate}
@@ -37,10 +36,26 @@ behind l w k = two l (two w (two (k .first) (two (k .second) (k .kind ∷ replic
 unfoldable pub encode : Record → List ℕ
 encode r = r .outline .counts ++ behind (r .outline .length .0) (r .outline .width .0) (linkOf (r .how))
 
+-- where the fields stand: the counts first, then two bytes each
+abbrev pub lengthAt : ℕ
+lengthAt = typesMost
+
+abbrev pub widthAt : ℕ
+widthAt = lengthAt + 2
+
+abbrev pub firstAt : ℕ
+firstAt = widthAt + 2
+
+abbrev pub secondAt : ℕ
+secondAt = firstAt + 2
+
+abbrev pub kindAt : ℕ
+kindAt = secondAt + 2
+
 unfoldable pub decode : List ℕ → Record
 decode s = record {
-  outline = record { length = record { 0 = word s 12 }; width = record { 0 = word s 14 }; counts = take typesMost s };
-  how = howOf (record { kind = getD s 20 0; first = word s 16; second = word s 18 });
+  outline = record { length = record { 0 = word s lengthAt }; width = record { 0 = word s widthAt }; counts = take typesMost s };
+  how = howOf (record { kind = getD s kindAt 0; first = word s firstAt; second = word s secondAt });
 }
 
 -- the i-th 32 bytes

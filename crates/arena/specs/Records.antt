@@ -1,12 +1,12 @@
 -- The arena as a list of records: what a record stands for, and what reading and writing one does. Assumes nothing.
 use mathlib.Core.Path.{_≡_}
-use mathlib.Core.List.{List, [], _∷_, _++_, map}
+use mathlib.Core.List.{List, [], _∷_, _++_}
 use Prim.Native.Nat.{ℕ, zero, suc, _<_}
 use lib.ListN.{length}
 use Rattle.rules.specs.Planner.{roomOf}
 use Rattle.rules.proofs.Unfold.{Maker, piece, joined, Rec}
 use Rattle.outline.specs.declared.Outline.{Outline}
-use Rattle.outline.specs.Stands.{outlineOf, wayOf, Sized}
+use Rattle.outline.specs.Stands.{outlineOf, wayOf, Sized, twoBytes}
 use Rattle.arena.specs.declared.How.{How}
 use Rattle.arena.specs.declared.How.the-variants.{Piece, Joined}
 use Rattle.arena.specs.declared.Record.{Record}
@@ -32,8 +32,8 @@ recs types (suc n) s = recs types n s ++ (recOf types (recordAt s n) ∷ [])
 pub record Storable (s : List ℕ) (i : ℕ) (r : Record) : Type 0 where
   pub room : i < roomOf (length s)
   pub sized : Sized (r .outline)
-  pub first : linkOf (r .how) .first < 65536
-  pub second : linkOf (r .how) .second < 65536
+  pub first : linkOf (r .how) .first < twoBytes
+  pub second : linkOf (r .how) .second < twoBytes
 
 -- record i is written, and those before it stay
 pub record Stored (i : ℕ) (r : Record) (before after : List ℕ) : Type 0 where

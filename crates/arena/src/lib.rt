@@ -9,13 +9,13 @@ use shapes::RECORD_BYTES;
 use shapes::RECORDS_MOST;
 use shapes::TYPES_MOST;
 ghost use mathlib.Core.Path.{_≡_};
-ghost use Prim.Native.Nat.{ℕ, _+_, _*_, _≤_, _<_, _-_};
+ghost use Prim.Native.Nat.{_+_, _*_, _≤_, _<_, _-_};
 ghost use lib.ListN.{length, take, replicate};
 ghost use Rattle.rules.specs.Limits.{recordBytes, typesMost};
 ghost use Rattle.rules.specs.Planner.{roomOf};
 ghost use Rattle.rules.proofs.Outlines.{sameList, sameOutline};
-ghost use Rattle.outline.specs.Stands.{outlineOf};
-ghost use Rattle.arena.specs.Bytes.{word, putWord, behind, linkOf, howOf, encode, decode, putChunk};
+ghost use Rattle.outline.specs.Stands.{outlineOf, twoBytes};
+ghost use Rattle.arena.specs.Bytes.{word, putWord, behind, linkOf, howOf, encode, decode};
 ghost use Rattle.arena.specs.Records.{recordAt, Storable, Stored, Loaded};
 
 // A piece of a type, numbered from 1, or a join of two records that stand before.
@@ -28,6 +28,17 @@ pub struct Record {
     pub outline: Outline,
     pub how: How,
 }
+
+// Where the fields of a record stand, behind its counts.
+const LENGTH_AT: usize = 12;
+
+const WIDTH_AT: usize = 14;
+
+const FIRST_AT: usize = 16;
+
+const SECOND_AT: usize = 18;
+
+const KIND_AT: usize = 20;
 
 // `How` in numbers: 0 for a piece, 1 for a join beside, 2 for a join above.
 pub struct Link {
@@ -81,7 +92,7 @@ fn wide(x: u8) -> u64
 // Two bytes, the low one first.
 fn get(s: &[u8], at: usize) -> u64
     requires { ⌜ at + 1 < length (now s) ⌝ }
-    ensures { λ r. ⌜ (r ≡ word (now (s .entry)) at) × (r < 65536) ⌝ }
+    ensures { λ r. ⌜ (r ≡ word (now (s .entry)) at) × (r < twoBytes) ⌝ }
 {
     wide(s[at]) + 256 * wide(s[at + 1])
 }
@@ -171,11 +182,11 @@ fn read(s: &[u8]) -> Record
     ensures { λ r. ⌜ Loaded (decode (now (s .entry))) r ⌝ }
 {
     let counts = counts_of(s);
-    let length = get(s, 12);
-    let width = get(s, 14);
-    let first = get(s, 16) as usize;
-    let second = get(s, 18) as usize;
-    let kind = s[20];
+    let length = get(s, LENGTH_AT);
+    let width = get(s, WIDTH_AT);
+    let first = get(s, FIRST_AT) as usize;
+    let second = get(s, SECOND_AT) as usize;
+    let kind = s[KIND_AT];
     let how = how_of(Link {
         kind,
         first,
@@ -231,10 +242,10 @@ fn same(s: &[u8], o: Outline, types: usize) -> bool
     requires { ⌜ (length (now s) ≡ recordBytes) × (types ≤ typesMost) ⌝ }
     ensures { λ r. ⌜ r ≡ sameOutline (outlineOf types o) (outlineOf types (decode (now (s .entry)) .outline)) ⌝ }
 {
-    if o.length.0 != get(s, 12) {
+    if o.length.0 != get(s, LENGTH_AT) {
         return false;
     }
-    if o.width.0 != get(s, 14) {
+    if o.width.0 != get(s, WIDTH_AT) {
         return false;
     }
     let counts = o.counts;

@@ -1,7 +1,7 @@
 -- Sums over the types, place by place, and the order of outlines, test by test. Assumes nothing.
-use mathlib.Core.Path.{_≡_, refl, sym, ap, _∙_, subst}
+use mathlib.Core.Path.{_≡_, sym, ap, _∙_, subst}
 use mathlib.Core.Bool.{Bool, true, false, true≢false}
-use mathlib.Core.Logic.{_⊎_, inl, inr, _≢_}
+use mathlib.Core.Logic.{inl, inr, _≢_}
 use mathlib.Core.List.{List, [], _∷_}
 use Prim.Native.Nat.{ℕ, zero, suc, _+_, _*_, _≤_, _<_}
 use native.Mathlib.Omega.{arith}
@@ -11,8 +11,8 @@ use lib.ListN.{length, getD, take}
 use borrow.Author.Count.{below-more}
 use borrow.Author.Tests.{ltb-true, ltb-false}
 use Rattle.rules.specs.Bag.{sum}
-use Rattle.rules.specs.Job.{Outline as Build, dot, profit, NotAfter, tieOrder, AtLeastAsGood}
-use Rattle.rules.proofs.Order.{not-after-refl, good-refl, good-trans}
+use Rattle.rules.specs.Job.{Outline as Build, dot, profit, tieOrder, AtLeastAsGood}
+use Rattle.rules.proofs.Order.{good-refl, good-trans}
 use Rattle.shapes.specs.declared.Job.{Job}
 use Rattle.outline.specs.declared.Outline.{Outline}
 use Rattle.outline.specs.Stands.{jobFor, outlineOf}

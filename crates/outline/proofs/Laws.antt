@@ -1,22 +1,20 @@
 -- Laws of counts, of a job's types, and of one piece's counts. Assumes nothing.
 use mathlib.Core.Path.{_≡_, refl, sym, ap, _∙_, subst}
-use mathlib.Core.Bool.{Bool, true, false, _&&_}
-use mathlib.Core.Logic.{_⊎_, inl, inr}
+use mathlib.Core.Bool.{true, false}
 use mathlib.Core.List.{List, [], _∷_, map}
 use Prim.Native.Nat.{ℕ, zero, suc, _+_, _%_, _≤_, _<_}
 use native.Mathlib.Omega.{arith}
 use native.Mathlib.Decide.{ℕ-discrete}
 use lib.Dec.{eqb, leb}
-use lib.ListN.{length, getD, take, set, replicate, length-take, length-set, length-map, length-replicate, getD-replicate, List·getD-map}
+use lib.ListN.{length, getD, take, set, replicate, length-set, length-map, length-replicate, getD-replicate, List·getD-map}
 use lib.Seq.{ext-getD, getD-take, getD-set-same, getD-set-other, length-take-le}
 use borrow.Author.Count.{below-more}
 use borrow.Author.Tests.{le-leb, lt-leb, eq-eqb, ne-eqb}
 use Rattle.rules.specs.Limits.{typesMost, demandMost}
 use Rattle.rules.specs.Bag.{tick, All, nil, cons}
 use Rattle.rules.specs.Job.{AtMost, plus, table, types, alone}
-use Rattle.rules.specs.Numbers.{PieceType, noType, grown, jobOf}
+use Rattle.rules.specs.Numbers.{PieceType, noType}
 use Rattle.rules.proofs.Bools.{and-false-left, and-false-right, both-and}
-use Rattle.rules.proofs.Bags.{all-at}
 use Rattle.rules.proofs.Tally.{length-table}
 use Rattle.rules.proofs.Outlines.{atMost}
 use Rattle.rules.proofs.Ranges.{TypeInRange}
@@ -129,10 +127,10 @@ module _ (job : Job) (r : JobInRange job) where
       demands (p ∷ l) (cons q a) = cons {x = p .demand} (q .demand .high) (demands l a)
 
 -- one piece of type t as the code makes it
-pub alone-of : (job : Job) → JobInRange job → (t : ℕ) → t < job .count → (l w : ℕ) → l ≡ getD (job .types) t noPiece .length + job .kerf → w ≡ getD (job .types) t noPiece .width + job .kerf → Alone job t (record { length = record { 0 = l }; width = record { 0 = w }; counts = set (replicate 12 0) t 1 })
+pub alone-of : (job : Job) → JobInRange job → (t : ℕ) → t < job .count → (l w : ℕ) → l ≡ getD (job .types) t noPiece .length + job .kerf → w ≡ getD (job .types) t noPiece .width + job .kerf → Alone job t (record { length = record { 0 = l }; width = record { 0 = w }; counts = set (replicate typesMost 0) t 1 })
 alone-of job r t h l w p q =
     let e = type-at job r t h in
     let cl : l ≡ pieceAt job t .long = p ∙ ap (λ (u : PieceType). u .long + job .kerf) (sym e) in
     let cw : w ≡ pieceAt job t .wide = q ∙ ap (λ (u : PieceType). u .wide + job .kerf) (sym e) in
-    let cc : take (job .count) (set (replicate 12 0) t 1) ≡ table (types (jobFor job)) (λ u. tick (eqb (suc t) u) 0) = unit-counts 12 (job .count) t (omega (arith, r .count)) (r .count) ∙ ap (λ n. table n (λ u. tick (eqb (suc t) u) 0)) (sym (types-count job r)) in
+    let cc : take (job .count) (set (replicate typesMost 0) t 1) ≡ table (types (jobFor job)) (λ u. tick (eqb (suc t) u) 0) = unit-counts typesMost (job .count) t (omega (arith, r .count)) (r .count) ∙ ap (λ n. table n (λ u. tick (eqb (suc t) u) 0)) (sym (types-count job r)) in
     record { alone = λ i. record { long = cl i; wide = cw i; counts = cc i } }

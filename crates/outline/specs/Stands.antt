@@ -36,10 +36,14 @@ abbrev pub wayOf : Way → box.Way
 wayOf Beside = box.along
 wayOf Above = box.across
 
+-- what two bytes hold is below
+abbrev pub twoBytes : ℕ
+twoBytes = 65_536
+
 -- sizes that two bytes hold
 pub record Sized (o : Outline) : Type 0 where
-  pub long : o .length .0 < 65536
-  pub wide : o .width .0 < 65536
+  pub long : o .length .0 < twoBytes
+  pub wide : o .width .0 < twoBytes
 
 -- of none of n types are there more than a demand can be
 abbrev pub Few : ℕ → List ℕ → Type 0

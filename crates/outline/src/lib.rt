@@ -4,12 +4,12 @@
 use shapes::Job;
 use shapes::TYPES_MOST;
 ghost use mathlib.Core.Path.{_≡_};
-ghost use Prim.Native.Nat.{ℕ, _+_, _%_, _<_, max};
+ghost use Prim.Native.Nat.{_+_, _%_, _<_, max};
 ghost use Rattle.rules.specs.Job.{horizontal, vertical};
 ghost use Rattle.rules.proofs.Bridge.{join};
 ghost use Rattle.rules.proofs.Outlines.{atMost, fits};
 ghost use lib.ListN.{take};
-ghost use Rattle.outline.specs.Stands.{JobInRange, jobFor, outlineOf, Sized, sums, Joins, wayOf, Alone};
+ghost use Rattle.outline.specs.Stands.{JobInRange, jobFor, outlineOf, Sized, sums, Joins, wayOf, Alone, twoBytes};
 
 pub struct Along(pub u64);
 
@@ -30,7 +30,7 @@ pub enum Way {
 
 impl Along {
     pub fn plus(self, other: Along) -> Along
-        requires { ⌜ (self .0 < 65536) × (other .0 < 65536) ⌝ }
+        requires { ⌜ (self .0 < twoBytes) × (other .0 < twoBytes) ⌝ }
         ensures { λ r. ⌜ r .0 ≡ self .0 + other .0 ⌝ }
     {
         Along(self.0 + other.0)
@@ -45,7 +45,7 @@ impl Along {
 
 impl Across {
     pub fn plus(self, other: Across) -> Across
-        requires { ⌜ (self .0 < 65536) × (other .0 < 65536) ⌝ }
+        requires { ⌜ (self .0 < twoBytes) × (other .0 < twoBytes) ⌝ }
         ensures { λ r. ⌜ r .0 ≡ self .0 + other .0 ⌝ }
     {
         Across(self.0 + other.0)

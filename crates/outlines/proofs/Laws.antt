@@ -1,20 +1,20 @@
 -- What each step of listing does to the records of the arena. Assumes nothing.
 use mathlib.Core.Path.{_≡_, refl, sym, ap, ap₂, _∙_, subst}
-use mathlib.Core.Bool.{Bool, true, false, true≢false}
+use mathlib.Core.Bool.{true, false, true≢false}
 use mathlib.Core.Logic.{_⊎_, inl, inr}
-use mathlib.Core.List.{List, [], _∷_, _++_, map, append-nil, append-assoc, List·Memᴰ, List·Memᴰ·head, List·Memᴰ·tail, List·Memᴰ·not-nil, List·Memᴰ·cases-cons, Memᴰ·append-left, Memᴰ·append-right, Memᴰ·cast}
+use mathlib.Core.List.{List, [], _∷_, _++_, append-nil, append-assoc, List·Memᴰ, List·Memᴰ·head, List·Memᴰ·tail, List·Memᴰ·not-nil, List·Memᴰ·cases-cons, Memᴰ·append-left, Memᴰ·append-right, Memᴰ·cast}
 use Prim.Native.Nat.{ℕ, zero, suc, _+_, _≤_, _<_}
 use native.Mathlib.Omega.{arith}
 use native.Mathlib.Numerals.{add-one}
 use native.Mathlib.Nat.{max-comm}
 use borrow.Author.Count.{below-more}
-use lib.ListN.{length, getD, take, length-append, length-map, List·getD-append, List·getD-map}
-use Rattle.rules.specs.Bag.{All, nil}
+use lib.ListN.{length, getD, length-append, length-map, List·getD-append, List·getD-map}
+use Rattle.rules.specs.Bag.{nil}
 use Rattle.rules.specs.Box.{Way, along, across}
-use Rattle.rules.specs.Made.{Making, Made, no-one, one}
+use Rattle.rules.specs.Made.{no-one, one}
 use Rattle.rules.specs.Job as rules
 use Rattle.rules.specs.Numbers.{PieceType, noType, grown, singlesFrom}
-use Rattle.rules.specs.Planner.{roomOf, FitsAlone}
+use Rattle.rules.specs.Planner.{roomOf}
 use Rattle.rules.proofs.Bags.{all-at, mem-map, from-map, map-append}
 use Rattle.rules.proofs.Bridge.{join, made-join}
 use Rattle.rules.proofs.Listing.{made-kept}
@@ -25,7 +25,7 @@ use Rattle.shapes.specs.declared.Job.{Job}
 use Rattle.shapes.specs.Handed.{numbersOf}
 use Rattle.outline.specs.declared.Outline.{Outline}
 use Rattle.outline.specs.declared.Way as code
-use Rattle.outline.specs.Stands.{JobInRange, jobFor, pieceAt, outlineOf, wayOf, Few, Sized, Joins, Alone}
+use Rattle.outline.specs.Stands.{JobInRange, jobFor, pieceAt, outlineOf, wayOf, Few, Joins, Alone, twoBytes}
 use Rattle.outline.proofs.Laws.{count-types, fits-few}
 use Rattle.arena.specs.declared.How.the-variants.{Piece, Joined}
 use Rattle.arena.specs.declared.Record.{Record}
@@ -35,7 +35,7 @@ use Rattle.arena.specs.Records.{recordAt, makerOf, recOf, recs, Storable, Store
 use Rattle.arena.proofs.Laws.{length-recs, recs-at, recs-more}
 use Rattle.outlines.specs.declared.Listed.{Listed}
 use Rattle.outlines.specs.declared.Listed.the-variants.{Complete, Full}
-use Rattle.outlines.specs.Listing.{recsIn, outlinesOf, outlinesIn, noOutline, Building, Sound, Held, Told, Holds, Ready, Addable, Joinable, OutlineIn, SingleIn, JoinIn, BothIn, RowIn, StartsIn, Grown, TooMany, Grows, AllListed, Lists}
+use Rattle.outlines.specs.Listing.{recsIn, outlinesOf, outlinesIn, noOutline, Building, Sound, Held, Holds, Ready, Addable, Joinable, OutlineIn, SingleIn, JoinIn, BothIn, RowIn, StartsIn, Grown, TooMany, Grows, AllListed, Lists}
 use Rattle.outlines.proofs.Lists.{mem-at, row-grow, upto-grow, sound-more, too-many-with}
 
 -- the outlines of records
@@ -205,11 +205,11 @@ module _ (job : Job) (s : List ℕ) (n i q : ℕ) (k : Joinable job s n i q) (w 
         second = second w;
       }
     where
-      first : (w : code.Way) → linkOf (Joined w i q) .first < 65536
+      first : (w : code.Way) → linkOf (Joined w i q) .first < twoBytes
       first Beside = omega (arith, k .one, k .ready .held .room)
       first Above = omega (arith, k .one, k .ready .held .room)
 
-      second : (w : code.Way) → linkOf (Joined w i q) .second < 65536
+      second : (w : code.Way) → linkOf (Joined w i q) .second < twoBytes
       second Beside = omega (arith, k .other, k .ready .held .room)
       second Above = omega (arith, k .other, k .ready .held .room)
 

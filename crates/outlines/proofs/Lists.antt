@@ -1,16 +1,15 @@
 -- Lists with one element more: distinct, valid, and the work done so far. Assumes nothing.
-use mathlib.Core.Path.{_≡_, refl, sym, ap, ap₂, _∙_, subst}
+use mathlib.Core.Path.{_≡_, refl, sym, ap₂, _∙_, subst}
 use mathlib.Core.Logic.{_⊎_, inl, inr}
-use mathlib.Core.List.{List, [], _∷_, _++_, map, append-nil, append-assoc, List·Memᴰ, List·Memᴰ·head, List·Memᴰ·tail, List·Memᴰ·not-nil, List·Memᴰ·append-cases, List·Memᴰ·eq-of-singleton, Memᴰ·append-left, Memᴰ·append-right, Memᴰ·cast}
-use Prim.Native.Nat.{ℕ, zero, suc, _+_, _≤_, _<_}
+use mathlib.Core.List.{List, [], _∷_, _++_, List·Memᴰ, List·Memᴰ·head, List·Memᴰ·tail, List·Memᴰ·not-nil, List·Memᴰ·append-cases, List·Memᴰ·eq-of-singleton, Memᴰ·append-left}
+use Prim.Native.Nat.{ℕ, zero, suc, _≤_, _<_}
 use native.Mathlib.Omega.{arith}
 use native.Mathlib.Decide.{ℕ-discrete}
-use lib.ListN.{length, getD, length-append, length-map, List·getD-append, List·getD-map}
+use lib.ListN.{length, getD, length-append, length-map, List·getD-append}
 use lib.Seq.{getD-at}
 use Rattle.rules.specs.Bag.{All, nil, cons}
-use Rattle.rules.specs.Box.{Way}
 use Rattle.rules.specs.Made.{Making, Distinct, no-one, new, MoreThan}
-use Rattle.rules.specs.Job.{Job, Outline, Build, building, alone}
+use Rattle.rules.specs.Job.{Job, Outline, Build}
 use Rattle.rules.proofs.Bags.{all-append, map-append}
 use Rattle.rules.proofs.Bridge.{join}
 use Rattle.rules.proofs.Unfold.{Maker, piece, joined, Rec, noRec, at, MadeBy, Valid}

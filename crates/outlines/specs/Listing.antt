@@ -13,7 +13,7 @@ use Rattle.rules.proofs.Bridge.{join}
 use Rattle.rules.proofs.Unfold.{Rec, noRec, MadeBy, Valid}
 use Rattle.rules.proofs.Worklist.{Joined, Row}
 use Rattle.shapes.specs.declared.Job.{Job}
-use Rattle.outline.specs.Stands.{JobInRange, jobFor, pieceAt, outlineOf}
+use Rattle.outline.specs.Stands.{JobInRange, jobFor, pieceAt, outlineOf, twoBytes}
 use Rattle.arena.specs.declared.Record.{Record}
 use Rattle.arena.specs.Bytes.{linkOf}
 use Rattle.arena.specs.Records.{makerOf, recs}
@@ -64,8 +64,8 @@ pub record Addable (job : Job) (s : List ℕ) (n : ℕ) (r : Record) : Type 0 wh
   pub ready : Ready job s n
   pub build : Building job (outlineOf (job .count) (r .outline))
   pub made : MadeBy (jobFor job) (recsIn job s n) n (outlineOf (job .count) (r .outline)) (makerOf (r .outline) (r .how))
-  pub first : linkOf (r .how) .first < 65536
-  pub second : linkOf (r .how) .second < 65536
+  pub first : linkOf (r .how) .first < twoBytes
+  pub second : linkOf (r .how) .second < twoBytes
 
 pub record Joinable (job : Job) (s : List ℕ) (n i q : ℕ) : Type 0 where
   pub ready : Ready job s n

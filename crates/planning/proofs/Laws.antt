@@ -1,30 +1,28 @@
 -- The planner's story in laws: what fits, the best of the list, its placements, and the answers. Assumes nothing.
 use mathlib.Core.Path.{_≡_, refl, sym, ap, _∙_, subst}
-use mathlib.Core.Bool.{true, false}
-use mathlib.Core.Logic.{_≢_}
-use mathlib.Core.Option.{Option, none, some}
-use mathlib.Core.List.{List, [], _∷_, _++_, map, List·Memᴰ, List·Memᴰ·not-nil, Memᴰ·cast}
-use Prim.Native.Nat.{ℕ, _+_, _*_, _/_, _≤_, _<_}
+use mathlib.Core.Bool.{true}
+use mathlib.Core.Option.{none, some}
+use mathlib.Core.List.{List, [], _++_, map, List·Memᴰ, List·Memᴰ·not-nil, Memᴰ·cast}
+use Prim.Native.Nat.{ℕ, _≤_, _<_}
 use native.Mathlib.Omega.{arith}
-use lib.ListN.{length, getD, take, drop, replicate, length-append, length-take, length-drop, length-map}
+use lib.ListN.{length, take, drop, replicate, length-append, length-drop, length-map}
 use lib.Seq.{take-at, drop-at}
 use Rattle.rules.specs.Limits.{typesMost}
-use Rattle.rules.specs.Bag.{All, Same, sum}
+use Rattle.rules.specs.Bag.{Same, sum}
 use Rattle.rules.specs.Made.{one}
 use Rattle.rules.specs.Job as rules
-use Rattle.rules.specs.Numbers.{Numbers, jobOf, Entry, entries, placed, lying}
-use Rattle.rules.specs.Items.{outOfRange, numbersFrom}
+use Rattle.rules.specs.Numbers.{jobOf, entries, placed, lying}
+use Rattle.rules.specs.Items.{outOfRange}
 use Rattle.rules.specs.Placed.{Placed}
-use Rattle.rules.specs.Planner.{PlanAnswer, noPlan, planOf, roomOf, slotsOf, FitsAlone, Planned, none-fits, too-many, no-slots, done, PlanFor, numbersFor, Written, BufferLeft, arenaAfter}
-use Rattle.rules.specs.Answers.{PlanLeft, refusedPlan, PlanItems, PlanNumbers, Ranged, outside, within}
+use Rattle.rules.specs.Planner.{roomOf, slotsOf, Planned, none-fits, too-many, no-slots, done, PlanFor, numbersFor, Written, BufferLeft}
+use Rattle.rules.specs.Answers.{PlanLeft, PlanNumbers, outside, within}
 use Rattle.rules.proofs.Accept.{job-typed}
 use Rattle.rules.proofs.Arrange.{entryOf, flat, entries-flat, length-flat, lying-entries, plan-for}
 use Rattle.rules.proofs.Bags.{all-at, all-of, all-map, mem-map, from-map, same-map}
 use Rattle.rules.proofs.Lay.{Laid}
-use Rattle.rules.proofs.Listing.{made-kept}
 use Rattle.rules.proofs.Outlines.{fits, fits-true}
 use Rattle.rules.proofs.Ranges.{positive}
-use Rattle.rules.proofs.Tally.{Typed, pieces-counts}
+use Rattle.rules.proofs.Tally.{pieces-counts}
 use Rattle.rules.proofs.Unfold.{Rec, noRec, at, MadeBy, Lays, lays-some, unfolded}
 use Rattle.rules.proofs.Worklist.{index}
 use Rattle.shapes.specs.declared.Job.{Job}
@@ -33,15 +31,11 @@ use Rattle.shapes.specs.declared.PlanVerdict.the-variants.{Done, NoPlan}
 use Rattle.shapes.specs.declared.Refusal.the-variants.{OutOfRange, NothingFits, ArenaFull, BufferShort}
 use Rattle.shapes.specs.Answer.{planAnswer}
 use Rattle.shapes.specs.Handed.{itemsOf, numbersOf}
-use Rattle.jobs.specs.declared.Item.{Item}
-use Rattle.jobs.specs.declared.Item.the-variants.{Fine, Out}
-use Rattle.jobs.specs.Item.{itemPlace}
 use Rattle.jobs.proofs.Fine.{count-fine, same-numbers, job-in-range}
 use Rattle.outline.specs.declared.Outline.{Outline}
-use Rattle.outline.specs.Stands.{JobInRange, jobFor, pieceAt, outlineOf, wayOf, Alone}
-use Rattle.arena.specs.declared.How.the-variants.{Joined}
+use Rattle.outline.specs.Stands.{JobInRange, jobFor, pieceAt, outlineOf, Alone}
 use Rattle.arena.specs.declared.Record.{Record}
-use Rattle.arena.specs.Records.{recordAt, makerOf, recOf, Loaded}
+use Rattle.arena.specs.Records.{recordAt, makerOf, Loaded}
 use Rattle.arena.proofs.Laws.{length-recs, recs-at}
 use Rattle.outlines.specs.Listing.{recsIn, outlinesIn, SingleIn, AllListed, TooMany}
 use Rattle.outlines.proofs.Laws.{length-outlines, piece-mem, all-starts}

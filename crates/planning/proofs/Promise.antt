@@ -1,11 +1,11 @@
 -- The promise of planner and checker together, from their contracts alone. Assumes nothing.
-use mathlib.Core.Path.{_≡_, sym, _∙_}
-use mathlib.Core.Option.{Option, none, some}
+use mathlib.Core.Path.{_≡_}
+use mathlib.Core.Option.{none}
 use mathlib.Core.List.{List}
-use Prim.Native.Nat.{ℕ, _≤_}
+use Prim.Native.Nat.{ℕ}
 use native.Mathlib.Omega.{arith}
 use Rattle.rules.specs.Items.{outOfRange, numbersFrom}
-use Rattle.rules.specs.Numbers.{Entry, entries}
+use Rattle.rules.specs.Numbers.{entries}
 use Rattle.rules.specs.Checker.{CheckAnswer, Checked}
 use Rattle.rules.specs.Answers.{outside, within, PlanLeft, PlanNumbers, CheckNumbers}
 use Rattle.rules.proofs.Checking.{checked-once}

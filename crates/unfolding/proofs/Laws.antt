@@ -1,28 +1,25 @@
 -- A record laid out: a piece, or the first half and then the second. Assumes nothing.
 use mathlib.Core.Path.{_≡_, refl, sym, ap, ap₂, _∙_, subst}
-use mathlib.Core.Bool.{true, false, true≢false}
+use mathlib.Core.Bool.{true, false}
 use mathlib.Core.List.{List, [], _∷_, _++_, map, append-assoc, append-nil}
 use Prim.Native.Nat.{ℕ, _+_, _*_, _-_, _≤_, _<_}
 use native.Mathlib.Omega.{arith}
-use lib.ListN.{length, set, take, drop, length-append, length-drop, length-take, length-map, drop-of-length-le}
+use lib.ListN.{length, set, take, drop, length-append, length-drop, length-map, drop-of-length-le}
 use lib.Seq.{take-at, drop-at, take-all, drop-drop}
 use Rattle.rules.specs.Box as box
 use Rattle.rules.specs.Limits.{placementNumbers}
-use Rattle.rules.specs.Job as rules
 use Rattle.rules.specs.Numbers.{Entry}
-use Rattle.rules.specs.Placed.{Placed, put}
-use Rattle.rules.specs.Planner.{roomOf}
+use Rattle.rules.specs.Placed.{Placed}
 use Rattle.rules.proofs.Bags.{map-append}
 use Rattle.rules.proofs.Lay.{nextX, nextY}
-use Rattle.rules.proofs.Unfold.{Maker, piece, joined, Rec, at, Lays, Halves, lays-piece, lays-joined}
+use Rattle.rules.proofs.Unfold.{joined, Rec, at, Lays, Halves, lays-piece, lays-joined}
 use Rattle.rules.proofs.Arrange.{entryOf, flat, length-flat}
 use Rattle.outline.specs.declared.Outline.{Outline}
-use Rattle.outline.specs.Stands.{outlineOf, wayOf, Sized}
-use Rattle.arena.specs.declared.How.the-variants.{Piece, Joined}
-use Rattle.arena.specs.Records.{recordAt, makerOf, recOf}
-use Rattle.unfolding.specs.declared.Corner.{Corner}
+use Rattle.outline.specs.Stands.{outlineOf, wayOf}
+use Rattle.arena.specs.declared.How.the-variants.{Piece}
+use Rattle.arena.specs.Records.{recordAt, makerOf}
 use Rattle.unfolding.specs.declared.Node.{Node}
-use Rattle.unfolding.specs.Laying.{Near, IsNext, Falls, Placeable, IsJoined, IsNode, Reads, Layable, Wrote, LaidOut}
+use Rattle.unfolding.specs.Laying.{Placeable, IsJoined, IsNode, Reads, Layable, Wrote, LaidOut}
 
 flat-append : (a b : List Entry) → flat (a ++ b) ≡ flat a ++ flat b
 flat-append [] b = refl

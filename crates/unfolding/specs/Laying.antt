@@ -12,7 +12,7 @@ use Rattle.rules.proofs.Unfold.{Rec, at, Lays}
 use Rattle.rules.proofs.Arrange.{entryOf, flat}
 use Rattle.outline.specs.declared.Outline.{Outline}
 use Rattle.outline.specs.declared.Way.{Way}
-use Rattle.outline.specs.Stands.{outlineOf, wayOf}
+use Rattle.outline.specs.Stands.{outlineOf, wayOf, twoBytes}
 use Rattle.arena.specs.declared.How.the-variants.{Piece, Joined}
 use Rattle.arena.specs.Records.{recordAt, recOf}
 use Rattle.unfolding.specs.declared.Corner.{Corner}
@@ -30,7 +30,7 @@ pub record Near (x y : ℕ) : Type 0 where
 pub record IsNext (o : Outline) (w : Way) (x y : ℕ) (r : Corner) : Type 0 where
   pub along : r .x ≡ nextX (wayOf w) x (outlineOf 0 o)
   pub across : r .y ≡ nextY (wayOf w) y (outlineOf 0 o)
-  pub not-far : (r .x ≤ x + 65535) × (r .y ≤ y + 65535)
+  pub not-far : (r .x < x + twoBytes) × (r .y < y + twoBytes)
 
 -- a joined record's halves stand before it
 abbrev pub Falls : List ℕ → ℕ → Type 0
@@ -40,8 +40,8 @@ Falls s n = (i : ℕ) → i ≤ n → (w : Way) (a b : ℕ) → recordAt s i .ho
 pub record Placeable (s : List ℕ) (i x y : ℕ) : Type 0 where
   pub room : i < roomOf (length s)
   pub falls : Falls s i
-  pub along : x + 65536 * i < farMost
-  pub across : y + 65536 * i < farMost
+  pub along : x + twoBytes * i < farMost
+  pub across : y + twoBytes * i < farMost
 
 -- record i in two halves
 pub record IsJoined (s : List ℕ) (i x y : ℕ) (v : Node) : Type 0 where

@@ -5,7 +5,7 @@ use outline::Outline;
 use outline::Way;
 ghost use mathlib.Core.Path.{_≡_};
 ghost use mathlib.Core.List.{_∷_};
-ghost use Prim.Native.Nat.{ℕ, _≤_, _<_};
+ghost use Prim.Native.Nat.{_≤_};
 ghost use lib.ListN.{length, drop};
 ghost use Rattle.outline.specs.Stands.{Sized};
 ghost use Rattle.unfolding.specs.Laying.{Near, IsNext, Placeable, IsNode, Layable, LaidOut};

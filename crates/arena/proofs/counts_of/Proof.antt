@@ -1,20 +1,21 @@
 -- `arena::counts_of` meets its contract. The invariant: below i the bytes are copied. Assumes nothing.
-use Prim.Native.Nat.{ℕ, _+_, _-_, _*_, _≤_, _<_}
+use Prim.Native.Nat.{ℕ, _-_, _≤_, _<_}
 use native.Mathlib.Omega.{arith}
-use mathlib.Core.Path.{_≡_, refl, sym, ap, _∙_}
+use mathlib.Core.Path.{_≡_, refl, sym, _∙_}
 use lib.ListN.{length, getD, length-set}
-use lib.ListN.{take, length-take}
+use lib.ListN.{length-take}
 use lib.Seq.{ext-getD, getD-take}
 use Rattle.outline.proofs.Laws.{grow}
 use borrow.Author.Needs.{needs}
 use Rattle.arena.proofs.counts_of.Statement.{statement}
 use Rattle.arena.proofs.counts_of.Tie as tie
+use Rattle.rules.specs.Limits.{typesMost}
 
 abbrev Inv-loop : tie.InvT-loop
-Inv-loop s r₀ i₀ r i = (i ≤ 12) × (length r ≡ 12) × ((k : ℕ) → k < i → getD r k 0 ≡ getD s k 0)
+Inv-loop s r₀ i₀ r i = (i ≤ typesMost) × (length r ≡ typesMost) × ((k : ℕ) → k < i → getD r k 0 ≡ getD s k 0)
 
 abbrev μ-loop : tie.MeasureT-loop
-μ-loop s r₀ i₀ r i = 12 - i
+μ-loop s r₀ i₀ r i = typesMost - i
 
 loop-holds : tie.Need-loop-holds Inv-loop μ-loop
 loop-holds c = (search needs, search needs, λ k h. absurd (omega arith))
@@ -41,7 +42,7 @@ returns : tie.Need-returns Inv-loop μ-loop
 returns c =
     let l = c .before .loop in
     let a = c .before .before .args .s .now in
-    ext-getD 0 _ _ (simp length-take (omega arith)) (λ k h. l .inv .2 k (omega arith) ∙ sym (getD-take 12 a k 0 (omega arith)))
+    ext-getD 0 _ _ (simp length-take (omega arith)) (λ k h. l .inv .2 k (omega arith) ∙ sym (getD-take typesMost a k 0 (omega arith)))
 
 pub counts-of-spec : {M : Type 1} → statement M
 counts-of-spec =

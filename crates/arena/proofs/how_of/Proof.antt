@@ -1,6 +1,5 @@
 -- `arena::how_of` meets its contract. Assumes nothing.
 use borrow.Author.Tests.{eq-eqb, ne-eqb}
-use borrow.Author.Needs.{needs}
 use Rattle.arena.proofs.how_of.Statement.{statement}
 use Rattle.arena.proofs.how_of.Tie as tie
 

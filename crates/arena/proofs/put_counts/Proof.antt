@@ -1,19 +1,20 @@
 -- `arena::put_counts` meets its contract. The invariant: below i the counts stand. Assumes nothing.
-use Prim.Native.Nat.{ℕ, _+_, _-_, _*_, _≤_, _<_}
+use Prim.Native.Nat.{ℕ, _-_, _≤_, _<_}
 use native.Mathlib.Omega.{arith}
-use mathlib.Core.Path.{_≡_, refl, sym, ap, _∙_}
+use mathlib.Core.Path.{_≡_, refl}
 use lib.ListN.{length, getD, length-set}
 use lib.Seq.{ext-getD}
 use Rattle.outline.proofs.Laws.{grow}
 use borrow.Author.Needs.{needs}
 use Rattle.arena.proofs.put_counts.Statement.{statement}
 use Rattle.arena.proofs.put_counts.Tie as tie
+use Rattle.rules.specs.Limits.{typesMost}
 
 abbrev Inv-loop : tie.InvT-loop
-Inv-loop s₀ counts i₀ s i = (i ≤ 12) × (length s ≡ 12) × ((k : ℕ) → k < i → getD s k 0 ≡ getD counts k 0)
+Inv-loop s₀ counts i₀ s i = (i ≤ typesMost) × (length s ≡ typesMost) × ((k : ℕ) → k < i → getD s k 0 ≡ getD counts k 0)
 
 abbrev μ-loop : tie.MeasureT-loop
-μ-loop s₀ counts i₀ s i = 12 - i
+μ-loop s₀ counts i₀ s i = typesMost - i
 
 loop-holds : tie.Need-loop-holds Inv-loop μ-loop
 loop-holds c = (search needs, c .pre, λ k h. absurd (omega arith))
@@ -42,7 +43,7 @@ same-length c = search needs
 returns : tie.Need-returns Inv-loop μ-loop
 returns c =
     let l = c .before .loop in
-    let la : length (c .before .before .args .t2) ≡ 12 = search needs in
+    let la : length (c .before .before .args .t2) ≡ typesMost = search needs in
     ext-getD 0 _ _ (omega arith) (λ k h. l .inv .2 k (omega arith))
 
 pub put-counts-spec : {M : Type 1} → statement M

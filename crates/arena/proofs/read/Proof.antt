@@ -1,7 +1,7 @@
 -- `arena::read` meets its contract. Assumes nothing.
 use mathlib.Core.Path.{_∙_}
 use lib.ListN.{getD}
-use Rattle.arena.specs.Bytes.{howOf}
+use Rattle.arena.specs.Bytes.{howOf, kindAt}
 use Rattle.arena.proofs.Codec.{loaded}
 use borrow.Author.Needs.{needs}
 use Rattle.arena.proofs.read.Statement.{statement}
@@ -35,7 +35,7 @@ returns c =
     let g2 = g3 .before in
     let g1 = g2 .before in
     let n = g1 .before in
-    loaded _ _ _ _ _ (n .counts-of .ensures) (g1 .get .ensures) (g2 .get2 .ensures) (c .how-of .ensures ∙ (λ i. howOf (record { kind = getD (g1 .before .before .before .args .s .now) 20 0; first = g3 .get3 .ensures .0 i; second = g4 .get4 .ensures .0 i })))
+    loaded _ _ _ _ _ (n .counts-of .ensures) (g1 .get .ensures) (g2 .get2 .ensures) (c .how-of .ensures ∙ (λ i. howOf (record { kind = getD (g1 .before .before .before .args .s .now) kindAt 0; first = g3 .get3 .ensures .0 i; second = g4 .get4 .ensures .0 i })))
 
 pub read-spec : {M : Type 1} → statement M
 read-spec =

@@ -1,11 +1,12 @@
 -- `arena::same_at` meets its contract. Assumes nothing.
 use Prim.Native.Nat.{_+_, _*_, _-_}
 use native.Mathlib.Omega.{arith}
-use mathlib.Core.Path.{_≡_, refl, sym, ap, _∙_}
+use mathlib.Core.Path.{_≡_, _∙_}
 use Rattle.arena.specs.Bytes.{chunk}
 use borrow.Author.Needs.{needs}
 use Rattle.arena.proofs.same_at.Statement.{statement}
 use Rattle.arena.proofs.same_at.Tie as tie
+use Rattle.rules.specs.Limits.{recordBytes}
 
 mul-at : tie.Need-mul-at
 mul-at c = search needs
@@ -29,7 +30,7 @@ returns : tie.Need-returns
 unfolding chunk
 returns c =
     let i = c .before .before .before .args .i in
-    let e : i * 32 + 32 - i * 32 ≡ 32 = omega arith in
+    let e : i * recordBytes + recordBytes - i * recordBytes ≡ recordBytes = omega arith in
     c .same .ensures ∙ rw e
 
 pub same-at-spec : {M : Type 1} → statement M

@@ -1,8 +1,8 @@
 -- `arena::same_counts` meets its contract. The invariant: below i the counts agree. Assumes nothing.
-use Prim.Native.Nat.{ℕ, _+_, _-_, _*_, _≤_, _<_}
+use Prim.Native.Nat.{ℕ, _-_, _≤_, _<_}
 use native.Mathlib.Omega.{arith}
-use mathlib.Core.Path.{_≡_, refl, sym, ap, _∙_}
-use lib.ListN.{length, getD, length-set}
+use mathlib.Core.Path.{_≡_, sym, _∙_}
+use lib.ListN.{getD}
 use lib.ListN.{take, length-take}
 use lib.Seq.{getD-take}
 use borrow.Author.Count.{below-more}
@@ -10,6 +10,7 @@ use Rattle.arena.proofs.Codec.{same-here, same-all}
 use borrow.Author.Needs.{needs}
 use Rattle.arena.proofs.same_counts.Statement.{statement}
 use Rattle.arena.proofs.same_counts.Tie as tie
+use Rattle.rules.specs.Limits.{typesMost}
 
 abbrev Inv-loop : tie.InvT-loop
 Inv-loop s n counts i₀ i = (i ≤ n) × ((k : ℕ) → k < i → getD counts k 0 ≡ getD s k 0)
@@ -34,8 +35,8 @@ returns c =
     let lo = c .before .before .before .loop in
     let st = c .before .before .before .before in
     let s = st .args .s .now in
-    let e = getD-take 12 s (lo .i) 0 (omega arith) in
-    sym (same-here (st .args .n) (st .args .t2) (take 12 s) (lo .i) (omega arith) (search needs) (simp length-take (omega arith)) (λ p. c .if1 .taken (p ∙ e)))
+    let e = getD-take typesMost s (lo .i) 0 (omega arith) in
+    sym (same-here (st .args .n) (st .args .t2) (take typesMost s) (lo .i) (omega arith) (search needs) (simp length-take (omega arith)) (λ p. c .if1 .taken (p ∙ e)))
 
 loop-less : tie.Need-loop-less Inv-loop μ-loop
 loop-less c = search needs
@@ -48,7 +49,7 @@ returns-2 c =
     let lo = c .before .loop in
     let st = c .before .before in
     let s = st .args .s .now in
-    sym (same-all (st .args .n) (st .args .t2) (take 12 s) (search needs) (simp length-take (omega arith)) (λ k h. lo .inv .1 k (omega arith) ∙ sym (getD-take 12 s k 0 (omega arith))))
+    sym (same-all (st .args .n) (st .args .t2) (take typesMost s) (search needs) (simp length-take (omega arith)) (λ k h. lo .inv .1 k (omega arith) ∙ sym (getD-take typesMost s k 0 (omega arith))))
 
 pub same-counts-spec : {M : Type 1} → statement M
 same-counts-spec =

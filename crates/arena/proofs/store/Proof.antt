@@ -1,13 +1,14 @@
 -- `arena::store` meets its contract. Assumes nothing.
 use Prim.Native.Nat.{_+_, _*_, _-_}
 use native.Mathlib.Omega.{arith}
-use mathlib.Core.Path.{_≡_, refl, sym, ap, _∙_}
+use mathlib.Core.Path.{_≡_, refl}
 use lib.ListN.{length}
 use Rattle.arena.specs.Bytes.{putChunk}
 use Rattle.arena.proofs.Laws.{stored}
 use borrow.Author.Needs.{needs}
 use Rattle.arena.proofs.store.Statement.{statement}
 use Rattle.arena.proofs.store.Tie as tie
+use Rattle.rules.specs.Limits.{typesMost, recordBytes}
 
 mul-at : tie.Need-mul-at
 mul-at c = search needs
@@ -30,7 +31,7 @@ write-requires c κs = search needs
 same-length : tie.Need-same-length
 same-length c = search needs
 
-counts-len : (c : tie.Start) → length (c .args .r .outline .counts) ≡ 12
+counts-len : (c : tie.Start) → length (c .args .r .outline .counts) ≡ typesMost
 counts-len c = search needs
 
 returns : tie.Need-returns
@@ -38,7 +39,7 @@ unfolding putChunk
 returns c =
     let st = c .before .before .before .before .before in
     let i = st .args .i in
-    let e : i * 32 + 32 - i * 32 ≡ 32 = omega arith in
+    let e : i * recordBytes + recordBytes - i * recordBytes ≡ recordBytes = omega arith in
     stored (st .args .arena .now) _ i (st .args .r) (st .pre) (counts-len st) (rw (e, c .before .before .write .ensures) refl)
 
 pub store-spec : {M : Type 1} → statement M

@@ -1,5 +1,4 @@
 -- `arena::write` meets its contract: the counts, and what stands behind them. Assumes nothing.
-use Prim.Native.Nat.{_+_, _*_, _-_}
 use native.Mathlib.Omega.{arith}
 use mathlib.Core.Path.{_≡_, ap, ap₂, _∙_}
 use mathlib.Core.List.{_++_}
@@ -9,6 +8,7 @@ use Rattle.arena.proofs.Codec.{put-behind}
 use borrow.Author.Needs.{needs}
 use Rattle.arena.proofs.write.Statement.{statement}
 use Rattle.arena.proofs.write.Tie as tie
+use Rattle.rules.specs.Limits.{typesMost}
 
 slice-relend-prefix-put-counts : tie.Need-slice-relend-prefix-put-counts
 slice-relend-prefix-put-counts c = search needs
@@ -37,7 +37,7 @@ write-behind-requires c κs = search needs
 same-length : tie.Need-same-length
 same-length c = search needs
 
-counts-len : (c : tie.Start) → length (c .args .r .outline .counts) ≡ 12
+counts-len : (c : tie.Start) → length (c .args .r .outline .counts) ≡ typesMost
 counts-len c = search needs
 
 returns : tie.Need-returns
@@ -47,8 +47,8 @@ returns c =
     let k = w .before in
     let p = k .before .before .before .before in
     let st = p .before .before .before .before in
-    let hc : length (st .args .r .outline .counts) ≡ 12 = counts-len st in
-    put-behind (p .put-counts .last .0) (drop 12 (st .args .s .now)) (w .write-behind .last .0) (ap length (p .put-counts .ensures) ∙ hc) (simp length-drop (omega (arith, st .pre)))
+    let hc : length (st .args .r .outline .counts) ≡ typesMost = counts-len st in
+    put-behind (p .put-counts .last .0) (drop typesMost (st .args .s .now)) (w .write-behind .last .0) (ap length (p .put-counts .ensures) ∙ hc) (simp length-drop (omega (arith, st .pre)))
     ∙ ap₂ _++_ (p .put-counts .ensures) (w .write-behind .ensures ∙ ap (behind (st .args .r .outline .length .0) (st .args .r .outline .width .0)) (k .link-of .ensures))
 
 pub write-spec : {M : Type 1} → statement M

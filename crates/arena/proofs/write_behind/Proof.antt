@@ -1,8 +1,7 @@
 -- `arena::write_behind` meets its contract: four words, a byte, and zeros. Assumes nothing.
 use lib.ListN.{length}
-use Prim.Native.Nat.{_+_, _*_, _-_}
 use native.Mathlib.Omega.{arith}
-use mathlib.Core.Path.{_≡_, refl, sym, ap, _∙_}
+use mathlib.Core.Path.{sym, ap, _∙_}
 use lib.ListN.{length-set}
 use Rattle.arena.proofs.Codec.{behind-steps, length-behind}
 use borrow.Author.Needs.{needs}

@@ -1,8 +1,8 @@
 -- `arena::zero` meets its contract. The invariant: the first i bytes are 0. Assumes nothing.
-use Prim.Native.Nat.{ℕ, _+_, _-_, _*_, _≤_, _<_}
+use Prim.Native.Nat.{_-_, _≤_}
 use native.Mathlib.Omega.{arith}
-use mathlib.Core.Path.{_≡_, refl, sym, ap, _∙_}
-use lib.ListN.{length, getD, length-set}
+use mathlib.Core.Path.{_≡_, _∙_}
+use lib.ListN.{length, length-set}
 use mathlib.Core.List.{_++_, append-nil}
 use lib.ListN.{drop, replicate}
 use lib.Seq.{drop-length}

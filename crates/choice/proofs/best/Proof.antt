@@ -1,7 +1,6 @@
 -- `choice::best` meets its contract. The invariant: record `at` is at least as good as each before i. Assumes nothing.
-use Prim.Native.Nat.{ℕ, _+_, _-_, _*_, _≤_, _<_}
+use Prim.Native.Nat.{_-_, _≤_}
 use native.Mathlib.Omega.{arith}
-use mathlib.Core.Path.{_≡_, refl, sym, ap, _∙_}
 use Rattle.choice.proofs.Laws.{Leads, leads-first, leads-new, leads-old, leads-all}
 use borrow.Author.Needs.{needs}
 use Rattle.choice.proofs.best.Statement.{statement}

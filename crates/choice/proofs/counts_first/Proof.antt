@@ -1,8 +1,8 @@
 -- `choice::counts_first` meets its contract. The invariant: below i the counts agree. Assumes nothing.
-use Prim.Native.Nat.{ℕ, _+_, _-_, _*_, _≤_, _<_}
+use Prim.Native.Nat.{ℕ, _-_, _≤_, _<_}
 use native.Mathlib.Omega.{arith}
-use mathlib.Core.Path.{_≡_, refl, sym, ap, _∙_}
-use lib.ListN.{length, getD}
+use mathlib.Core.Path.{_≡_}
+use lib.ListN.{getD}
 use borrow.Author.Count.{below-more}
 use Rattle.choice.proofs.Laws.{differ-at, agree-all}
 use borrow.Author.Needs.{needs}

@@ -1,9 +1,8 @@
 -- `choice::earned` meets its contract. Assumes nothing.
-use Prim.Native.Nat.{ℕ, _+_, _-_, _*_, _≤_, _<_}
+use Prim.Native.Nat.{_≤_}
 use native.Mathlib.Omega.{arith}
-use mathlib.Core.Path.{_≡_, refl, sym, ap, _∙_}
+use mathlib.Core.Path.{refl}
 use native.Mathlib.Nat.{mul-le-mul}
-use Rattle.rules.specs.Limits.{profitMost}
 use borrow.Author.Needs.{needs}
 use Rattle.choice.proofs.earned.Statement.{statement}
 use Rattle.choice.proofs.earned.Tie as tie

@@ -1,9 +1,9 @@
 -- `choice::pieces` meets its contract. The invariant: the sum of the first i counts. Assumes nothing.
-use Prim.Native.Nat.{ℕ, _+_, _-_, _*_, _≤_, _<_}
+use Prim.Native.Nat.{_-_, _*_, _≤_}
 use native.Mathlib.Omega.{arith}
-use mathlib.Core.Path.{_≡_, refl, sym, ap, _∙_}
-use lib.ListN.{length, getD, take}
-use Rattle.rules.specs.Limits.{profitMost}
+use mathlib.Core.Path.{_≡_, _∙_}
+use lib.ListN.{length, take}
+use Rattle.rules.specs.Limits.{profitMost, typesMost}
 use Rattle.rules.specs.Bag as bag
 use Rattle.choice.proofs.Laws.{sum-more}
 use borrow.Author.Needs.{needs}
@@ -34,7 +34,7 @@ add-i c = search needs
 loop-less : tie.Need-loop-less Inv-loop μ-loop
 loop-less c = search needs
 
-counts-len : (c : tie.Start Inv-loop μ-loop) → length (c .args .o .counts) ≡ 12
+counts-len : (c : tie.Start Inv-loop μ-loop) → length (c .args .o .counts) ≡ typesMost
 counts-len c = search needs
 
 loop-again : tie.Need-loop-again Inv-loop μ-loop

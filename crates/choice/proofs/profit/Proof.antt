@@ -1,9 +1,9 @@
 -- `choice::profit` meets its contract. The invariant: the sum over the first i types. Assumes nothing.
-use Prim.Native.Nat.{ℕ, _+_, _-_, _*_, _≤_, _<_}
+use Prim.Native.Nat.{_+_, _-_, _*_, _≤_}
 use native.Mathlib.Omega.{arith}
-use mathlib.Core.Path.{_≡_, refl, sym, ap, ap₂, _∙_}
+use mathlib.Core.Path.{_≡_, sym, ap, ap₂, _∙_}
 use lib.ListN.{length, getD, take}
-use Rattle.rules.specs.Limits.{profitMost}
+use Rattle.rules.specs.Limits.{profitMost, typesMost}
 use Rattle.rules.specs.Job.{dot}
 use Rattle.outline.specs.Stands.{jobFor}
 use Rattle.outline.proofs.Laws.{length-profits, profit-at, type-in-range}
@@ -44,7 +44,7 @@ add-i c = search needs
 loop-less : tie.Need-loop-less Inv-loop μ-loop
 loop-less c = search needs
 
-counts-len : (c : tie.Start Inv-loop μ-loop) → length (c .args .o .counts) ≡ 12
+counts-len : (c : tie.Start Inv-loop μ-loop) → length (c .args .o .counts) ≡ typesMost
 counts-len c = search needs
 
 loop-again : tie.Need-loop-again Inv-loop μ-loop

@@ -1,19 +1,20 @@
 -- `outline::added` meets its contract. The invariant: below i the sums stand. Assumes nothing.
 use Prim.Native.Nat.{ℕ, _+_, _-_, _%_, _≤_, _<_}
 use native.Mathlib.Omega.{arith}
-use mathlib.Core.Path.{_≡_, refl, sym, ap, _∙_}
+use mathlib.Core.Path.{_≡_, sym, _∙_}
 use lib.ListN.{length, getD, length-set}
 use lib.Seq.{ext-getD}
 use Rattle.outline.proofs.Laws.{grow, length-sums, getD-sums}
 use borrow.Author.Needs.{needs}
 use Rattle.outline.proofs.added.Statement.{statement}
 use Rattle.outline.proofs.added.Tie as tie
+use Rattle.rules.specs.Limits.{typesMost}
 
 abbrev Inv-loop : tie.InvT-loop
-Inv-loop a b r₀ i₀ r i = (i ≤ 12) × (length r ≡ 12) × ((k : ℕ) → k < i → getD r k 0 ≡ (getD a k 0 + getD b k 0) % 256)
+Inv-loop a b r₀ i₀ r i = (i ≤ typesMost) × (length r ≡ typesMost) × ((k : ℕ) → k < i → getD r k 0 ≡ (getD a k 0 + getD b k 0) % 256)
 
 abbrev μ-loop : tie.MeasureT-loop
-μ-loop a b r₀ i₀ r i = 12 - i
+μ-loop a b r₀ i₀ r i = typesMost - i
 
 loop-holds : tie.Need-loop-holds Inv-loop μ-loop
 loop-holds c = (search needs, search needs, λ k h. absurd (omega arith))
@@ -49,7 +50,7 @@ returns c =
     let a = c .before .before .args .t1 in
     let b = c .before .before .args .t2 in
     let e : length a ≡ length b = search needs in
-    let la : length a ≡ 12 = search needs in
+    let la : length a ≡ typesMost = search needs in
     ext-getD 0 _ _ (omega (arith, length-sums a b e)) (λ k h. l .inv .2 k (omega arith) ∙ sym (getD-sums a b e k (omega arith)))
 
 pub added-spec : {M : Type 1} → statement M

@@ -1,8 +1,8 @@
 -- `outline::demands_kept` meets its contract. The invariant: below i no count is above its demand. Assumes nothing.
-use Prim.Native.Nat.{ℕ, _+_, _-_, _%_, _≤_, _<_}
+use Prim.Native.Nat.{ℕ, _-_, _≤_, _<_}
 use native.Mathlib.Omega.{arith}
-use mathlib.Core.Path.{_≡_, refl, sym, ap, _∙_}
-use lib.ListN.{length, getD}
+use mathlib.Core.Path.{sym}
+use lib.ListN.{getD}
 use borrow.Author.Count.{below-more}
 use Rattle.outline.specs.Stands.{jobFor}
 use Rattle.outline.proofs.Laws.{at-most-here, at-most-all, types-count, demand-at}

@@ -1,8 +1,6 @@
 -- `outline::single` meets its contract. Assumes nothing.
-use Prim.Native.Nat.{ℕ, _+_, _-_, _%_, _≤_, _<_}
 use native.Mathlib.Omega.{arith}
-use mathlib.Core.Path.{_≡_, refl, sym, ap, _∙_}
-use lib.ListN.{length, getD}
+use mathlib.Core.Path.{refl}
 use Rattle.outline.proofs.Laws.{alone-of, type-in-range}
 use borrow.Author.Needs.{needs}
 use Rattle.outline.proofs.single.Statement.{statement}

@@ -1,8 +1,5 @@
 -- `outlines::add` meets its contract. Assumes nothing.
-use Prim.Native.Nat.{ℕ, _+_, _-_, _≤_, _<_}
-use native.Mathlib.Omega.{arith}
-use mathlib.Core.Path.{_≡_, refl, sym, ap, _∙_}
-use Rattle.outlines.specs.Listing.{Addable}
+use mathlib.Core.Path.{sym, _∙_}
 use Rattle.outlines.proofs.Laws.{grown-self, storable, added, full-with}
 use borrow.Author.Needs.{needs}
 use Rattle.outlines.proofs.add.Statement.{statement}

@@ -1,9 +1,7 @@
 -- `outlines::add_both` meets its contract: the two joins in turn. Assumes nothing.
-use Prim.Native.Nat.{ℕ, _+_, _-_, _≤_, _<_}
 use native.Mathlib.Omega.{arith}
-use mathlib.Core.Path.{_≡_, refl, sym, ap, _∙_}
-use Rattle.rules.specs.Box.{along, across}
-use Rattle.outlines.specs.Listing.{JoinIn, BothIn, Grown, Grows}
+use Rattle.rules.specs.Box.{across}
+use Rattle.outlines.specs.Listing.{JoinIn, BothIn}
 use Rattle.outlines.proofs.Laws.{grows-then, grown-le, both-in}
 use borrow.Author.Needs.{needs}
 use Rattle.outlines.proofs.add_both.Statement.{statement}

@@ -1,9 +1,6 @@
 -- `outlines::add_join` meets its contract. Assumes nothing.
 use Rattle.arena.specs.declared.How.the-variants.{Joined}
-use Prim.Native.Nat.{ℕ, _+_, _-_, _≤_, _<_}
-use native.Mathlib.Omega.{arith}
-use mathlib.Core.Path.{_≡_, refl, sym, ap, _∙_}
-use Rattle.rules.proofs.Bridge.{join}
+use mathlib.Core.Path.{sym, _∙_}
 use Rattle.outline.specs.Stands.{wayOf}
 use Rattle.outlines.specs.Listing.{OutlineIn, JoinIn}
 use Rattle.outlines.proofs.Laws.{grown-self, grows-map, join-addable, join-in, join-not}

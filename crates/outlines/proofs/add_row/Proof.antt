@@ -1,12 +1,12 @@
 -- `outlines::add_row` meets its contract. The invariant: record i is joined with those before q. Assumes nothing.
-use Prim.Native.Nat.{ℕ, _+_, _-_, _≤_, _<_}
+use Prim.Native.Nat.{_+_, _-_, _≤_}
 use native.Mathlib.Omega.{arith}
-use mathlib.Core.Path.{_≡_, refl, sym, ap, _∙_}
+use mathlib.Core.Path.{_≡_, refl, _∙_}
 use lib.ListN.{length}
 use Rattle.rules.specs.Job.{building}
 use Rattle.rules.proofs.Worklist.{Row}
 use Rattle.outline.specs.Stands.{jobFor}
-use Rattle.outlines.specs.Listing.{noOutline, Grown, Grows, BothIn, RowIn}
+use Rattle.outlines.specs.Listing.{noOutline, Grown}
 use Rattle.outlines.proofs.Laws.{grown-self, grown-le, grown-then, too-many-then, row-in, whole-row}
 use borrow.Author.Needs.{needs}
 use Rattle.outlines.proofs.add_row.Statement.{statement}

@@ -1,7 +1,6 @@
 -- `outlines::add_single` meets its contract. Assumes nothing.
-use Prim.Native.Nat.{ℕ, _+_, _-_, _≤_, _<_}
-use native.Mathlib.Omega.{arith}
-use mathlib.Core.Path.{_≡_, refl, sym, ap, _∙_}
+use Prim.Native.Nat.{_+_}
+use mathlib.Core.Path.{sym, _∙_}
 use mathlib.Core.List.{_++_}
 use Rattle.arena.specs.declared.How.the-variants.{Piece}
 use Rattle.outlines.specs.Listing.{OutlineIn, SingleIn}

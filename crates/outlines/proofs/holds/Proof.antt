@@ -1,7 +1,7 @@
 -- `outlines::holds` meets its contract. The invariant: none of the first i records has the outline. Assumes nothing.
-use Prim.Native.Nat.{ℕ, _+_, _-_, _≤_, _<_}
+use Prim.Native.Nat.{ℕ, _-_, _≤_, _<_}
 use native.Mathlib.Omega.{arith}
-use mathlib.Core.Path.{_≡_, refl, sym, ap, _∙_}
+use mathlib.Core.Path.{_≡_, sym}
 use mathlib.Core.Bool.{true, false, true≢false}
 use borrow.Author.Count.{below-more}
 use Rattle.rules.proofs.Outlines.{sameOutline}

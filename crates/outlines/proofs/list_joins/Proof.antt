@@ -1,10 +1,10 @@
 -- `outlines::list_joins` meets its contract. The invariant: each record before i is joined with all up to itself. Assumes nothing.
-use Prim.Native.Nat.{ℕ, _+_, _-_, _≤_, _<_}
+use Prim.Native.Nat.{_-_, _≤_}
 use native.Mathlib.Omega.{arith}
-use mathlib.Core.Path.{_≡_, refl, sym, ap, _∙_}
+use mathlib.Core.Path.{_≡_, refl, ap, _∙_}
 use lib.ListN.{length}
 use Rattle.rules.specs.Planner.{roomOf}
-use Rattle.outlines.specs.Listing.{Grown, Grows, RowIn, Lists}
+use Rattle.outlines.specs.Listing.{Grown}
 use Rattle.outlines.proofs.Laws.{Closing, none-closed, closing-more, all-listed, grown-self, grown-le, grown-then, too-many-then}
 use borrow.Author.Needs.{needs}
 use Rattle.outlines.proofs.list_joins.Statement.{statement}
@@ -28,6 +28,7 @@ add-row-requires : tie.Need-add-row-requires Inv-loop μ-loop
 add-row-requires c κs =
     let at = c .before .before in
     let st = at .before .before in
+    let le = grown-le (st .args .job) (at .loop .inv .2) in
     record { ready = record { range = st .pre .0 .range; held = at .loop .inv .2 .held }; one = omega arith; other = omega arith }
 
 enum-told : tie.Need-enum-told Inv-loop μ-loop
@@ -52,6 +53,7 @@ loop-less : tie.Need-loop-less Inv-loop μ-loop
 loop-less c =
     let d = c .before .before .before .before .before in
     let at = d .before .before .before in
+    let le = grown-le (at .before .before .args .job) (at .loop .inv .2) in
     omega (arith, at .loop .inv .2 .held .room, ap roomOf (at .loop .inv .1))
 
 loop-again : tie.Need-loop-again Inv-loop μ-loop
@@ -60,6 +62,7 @@ loop-again c =
     let at = d .before .before .before in
     let st = at .before .before in
     let g = rw (c .before .m .given .1) at (d .add-row .ensures) in
+    let le = grown-le (st .args .job) (at .loop .inv .2) in
     (omega (arith, grown-le (st .args .job) g), d .add-row .kept .1 .0 ∙ at .loop .inv .1, grown-then (st .args .job) (closing-more (st .args .job) (at .loop .i) (at .loop .n) (omega arith)) (at .loop .inv .2) g)
 
 same-length-2 : tie.Need-same-length-2 Inv-loop μ-loop

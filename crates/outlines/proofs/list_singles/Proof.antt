@@ -1,9 +1,9 @@
 -- `outlines::list_singles` meets its contract. The invariant: the types before t are listed. Assumes nothing.
-use Prim.Native.Nat.{ℕ, _+_, _-_, _≤_, _<_}
+use Prim.Native.Nat.{_-_, _≤_}
 use native.Mathlib.Omega.{arith}
-use mathlib.Core.Path.{_≡_, refl, sym, ap, _∙_}
+use mathlib.Core.Path.{_≡_, refl, _∙_}
 use lib.ListN.{length}
-use Rattle.outlines.specs.Listing.{Grown, Grows, SingleIn, StartsIn}
+use Rattle.outlines.specs.Listing.{Grown}
 use Rattle.outlines.proofs.Laws.{SinglesIn, none-held, grown-self, grown-then, too-many-then, singles-more, all-starts}
 use borrow.Author.Needs.{needs}
 use Rattle.outlines.proofs.list_singles.Statement.{statement}

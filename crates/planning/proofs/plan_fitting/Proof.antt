@@ -1,7 +1,4 @@
 -- `planning::plan_fitting` meets its contract. Assumes nothing.
-use Prim.Native.Nat.{ℕ, _+_, _-_, _*_, _≤_, _<_}
-use native.Mathlib.Omega.{arith}
-use mathlib.Core.Path.{_≡_, refl, sym, ap, _∙_}
 use Rattle.planning.proofs.Laws.{choosing, answer-full}
 use borrow.Author.Needs.{needs}
 use Rattle.planning.proofs.plan_fitting.Statement.{statement}

@@ -1,7 +1,5 @@
 -- `planning::plan_in_range` meets its contract. Assumes nothing.
-use Prim.Native.Nat.{ℕ, _+_, _-_, _*_, _≤_, _<_}
-use native.Mathlib.Omega.{arith}
-use mathlib.Core.Path.{_≡_, refl, sym, ap, _∙_}
+use mathlib.Core.Path.{_∙_}
 use Rattle.planning.proofs.Laws.{left-unfit, left-wiped}
 use borrow.Author.Needs.{needs}
 use Rattle.planning.proofs.plan_in_range.Statement.{statement}

@@ -1,13 +1,12 @@
 -- `planning::plan_job` meets its contract: the check of the numbers, and then the plan. Assumes nothing.
-use Prim.Native.Nat.{ℕ, _+_, _-_, _*_, _≤_, _<_}
-use native.Mathlib.Omega.{arith}
-use mathlib.Core.Path.{_≡_, refl, sym, ap, _∙_}
+use mathlib.Core.Path.{_≡_, sym, ap, _∙_}
 use lib.ListN.{length, length-map}
 use Rattle.jobs.specs.Item.{itemPlace}
 use Rattle.planning.proofs.Laws.{refused-item, range-of, in-range-left}
 use borrow.Author.Needs.{needs}
 use Rattle.planning.proofs.plan_job.Statement.{statement}
 use Rattle.planning.proofs.plan_job.Tie as tie
+use Rattle.rules.specs.Limits.{typesMost}
 
 first-out-of-range-requires : tie.Need-first-out-of-range-requires
 first-out-of-range-requires c κs = search needs
@@ -18,7 +17,7 @@ enum-known-item c = search needs
 enum-told : tie.Need-enum-told
 enum-told c = search needs
 
-types-len : (c : tie.Start) → length (c .args .job .types) ≡ 12
+types-len : (c : tie.Start) → length (c .args .job .types) ≡ typesMost
 types-len c = sym (length-map (c .args .job .types) _) ∙ c .good .0 .1 .1 .1 .1 .1 .1 .0 .1 .0 .1
 
 plan-in-range-requires : tie.Need-plan-in-range-requires

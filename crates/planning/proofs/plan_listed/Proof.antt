@@ -1,10 +1,9 @@
 -- `planning::plan_listed` meets its contract: choose, unfold, order, answer. Assumes nothing.
-use Prim.Native.Nat.{ℕ, _+_, _-_, _*_, _≤_, _<_}
+use Prim.Native.Nat.{_≤_}
 use native.Mathlib.Omega.{arith}
-use mathlib.Core.Path.{_≡_, refl, sym, ap, _∙_}
-use lib.ListN.{length, take, length-take}
+use lib.ListN.{length, length-take}
 use Rattle.rules.specs.Job.{pieces}
-use Rattle.rules.specs.Planner.{slotsOf, numbersFor}
+use Rattle.rules.specs.Planner.{slotsOf}
 use Rattle.outline.specs.Stands.{outlineOf}
 use Rattle.planning.proofs.Laws.{best-of, layable, end-is, length-b1, written, answer-short, answer-done}
 use borrow.Author.Needs.{needs}

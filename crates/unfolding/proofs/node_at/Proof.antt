@@ -1,6 +1,6 @@
 -- `unfolding::node_at` meets its contract. Assumes nothing.
 use native.Mathlib.Omega.{arith}
-use mathlib.Core.Path.{_≡_, sym, ap, _∙_, subst}
+use mathlib.Core.Path.{sym, ap, _∙_, subst}
 use mathlib.Core.Bool.{true≢false}
 use Rattle.arena.specs.declared.Record.{Record}
 use Rattle.unfolding.specs.Laying.{IsNext}

@@ -1,5 +1,4 @@
 -- `outline::Outline::fits` meets its contract: the three tests in turn. Assumes nothing.
-use mathlib.Core.Path.{sym, _∙_}
 use borrow.Author.Tests.{le-leb, lt-leb}
 use borrow.Author.Needs.{needs}
 use Rattle.outline.proofs.Outline.fits.Statement.{statement}

@@ -163,6 +163,10 @@ module _ (j : Job) where
       (bridge pf (keep g ps) fe (firstPart w line r) fl fa (small-first w line r (rb .0 .box) (rb .1 .inside) m) (half-first g ps d))
       (bridge pr (keep (other g) ps) re (restPart w line r) rl ra (small-rest w line r (fb .0 .box) (fb .1 .inside) m) (half-rest g ps d))
 
-  -- accepted pieces lie on the sheet: they give a build with their counts
+  -- accepted pieces give a build with their counts, no larger than any region of the sheet that holds them: so no larger than their bounding box
+  pub build-in : (ps : List Placed) → 0 < length ps → Accepted j ps → (r : Region) → All (λ p. In r (p .box)) ps → r .x₁ ≤ j .long → r .y₁ ≤ j .wide → Boxed j ps r
+  build-in ps h a r i l w = bridge (a .parted) ps refl r h (all-map (λ p k. record { of = k .0; inside = k .1 }) (all-zip (a .known) i)) (record { long = omega arith; wide = omega arith }) (a .demand)
+
+  -- the whole sheet is such a region
   pub build-of : (ps : List Placed) → 0 < length ps → Accepted j ps → Boxed j ps (record { x₀ = 0; y₀ = 0; x₁ = j .long; y₁ = j .wide })
-  build-of ps h a = bridge (a .parted) ps refl _ h (all-map (λ p k. record { of = k .0; inside = k .1 }) (all-zip (a .known) (a .inside))) (record { long = omega arith; wide = omega arith }) (a .demand)
+  build-of ps h a = build-in ps h a (record { x₀ = 0; y₀ = 0; x₁ = j .long; y₁ = j .wide }) (a .inside) (omega arith) (omega arith)

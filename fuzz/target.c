@@ -14,6 +14,28 @@
 
 enum { ARENA_MOST = 4096, PLAN_MOST = 96, LIST_MOST = 300, JOB_NUMBERS = 52 };
 
+/* The archive carries no coverage counters, so the answers guide the fuzzer: each function, number and place counts as something new to reach. */
+enum { KINDS = 4, NUMBERS = 11, PLACES = 64 };
+static uint64_t seen[KINDS][NUMBERS];
+#ifndef STANDALONE
+__attribute__((section("__libfuzzer_extra_counters")))
+#endif
+static uint8_t reached[KINDS * NUMBERS * PLACES];
+
+static void saw(unsigned kind, uint64_t number, uint64_t place) {
+    seen[kind][number]++;
+    reached[(kind * NUMBERS + number) * PLACES + place % PLACES] = 1;
+}
+
+__attribute__((destructor)) static void tell(void) {
+    static const char *const names[KINDS] = { "plan text", "check text", "plan numbers", "check numbers" };
+    for (int k = 0; k < KINDS; k++) {
+        fprintf(stderr, "%s:", names[k]);
+        for (int n = 0; n < NUMBERS; n++) if (seen[k][n]) fprintf(stderr, "  %d x%llu", n, (unsigned long long) seen[k][n]);
+        fprintf(stderr, "\n");
+    }
+}
+
 typedef struct { const uint8_t *at; size_t left; } Bytes;
 
 static uint64_t next(Bytes *b) {
@@ -24,8 +46,10 @@ static uint64_t next(Bytes *b) {
 
 /* A number that is mostly small, sometimes at an end of a range, sometimes of 64 bits. */
 static uint64_t number(Bytes *b) {
+    if (b->left == 0) return 3;
     uint64_t v = next(b);
-    if (v < 230) return v % 24;
+    if (v < 2) return 0;
+    if (v < 230) return 1 + v % 24;
     if (v < 245) return next(b) * 20 + next(b) % 20;
     if (v < 250) return 25000000 + next(b) - 128;
     uint64_t wide = 0;
@@ -69,9 +93,11 @@ int LLVMFuzzerTestOneInput(const uint8_t *data, size_t size) {
     if (kind == 0) {
         uint64_t said = varandeco_plan_text(b.at, b.left, arena, arena_len, plan, plan_len, answer, 7);
         of_plan(said, answer, arena, arena_len, fill, plan, plan_len);
+        saw(kind, said, answer[1] + answer[5]);
     } else if (kind == 1) {
         uint64_t said = varandeco_check_text(b.at, b.left, again, 4);
         of_check(said, again);
+        saw(kind, said, again[1] + again[3]);
     } else {
         uint64_t job[JOB_NUMBERS];
         size_t job_len = next(&b) % (JOB_NUMBERS + 1);
@@ -80,6 +106,7 @@ int LLVMFuzzerTestOneInput(const uint8_t *data, size_t size) {
         if (kind == 2) {
             uint64_t said = varandeco_plan_numbers(job, job_len, arena, arena_len, plan, plan_len, answer, 7);
             of_plan(said, answer, arena, arena_len, fill, plan, plan_len);
+            saw(kind, said, answer[1] + answer[5]);
             if (said == 0) {
                 REQUIRE(varandeco_check_numbers(job, job_len, plan, 3 * answer[5], again, 4) == 0);
                 REQUIRE(again[2] == answer[2] && again[3] == answer[5]);
@@ -87,10 +114,15 @@ int LLVMFuzzerTestOneInput(const uint8_t *data, size_t size) {
         } else {
             uint64_t list[LIST_MOST], before[LIST_MOST];
             size_t list_len = 0;
-            while (b.left && list_len < LIST_MOST) list[list_len++] = number(&b);
+            while (b.left && list_len < LIST_MOST) {
+                uint64_t v = number(&b);
+                list[list_len] = list_len % 3 == 0 && v > 0 && v < 25 ? 1 + v % 3 : v;
+                list_len++;
+            }
             memcpy(before, list, sizeof list[0] * list_len);
             uint64_t said = varandeco_check_numbers(job, job_len, list, list_len, again, 4);
             of_check(said, again);
+            saw(kind, said, again[1] + again[3]);
             REQUIRE(memcmp(before, list, sizeof list[0] * list_len) == 0);
             if (said == 0) {
                 /* no accepted list earns more than the planner's answer, where it gives one */

@@ -1,0 +1,314 @@
+//! The two planners against each other, the planner against the checker, and
+//! every row of the tables.
+
+use crate::cases::{answer, compare, verify, Case};
+use crate::checker::{can_be_parted, can_be_parted_by_definition, check, Area, Placement};
+use crate::gen::{small_jobs, Generator};
+use crate::job::{Job, JobNumbers, Refusal};
+use crate::outlines::Outlines;
+use crate::planner::plan;
+use crate::rng::Rng;
+use crate::tables::{rows, slow_rows, Row};
+use crate::{text, topdown};
+
+fn agree(row: &Row) {
+    let answer = answer(&row.case).unwrap();
+    let words = row.answer.split(' ').count();
+    let leading: Vec<&str> = answer.split(' ').take(words).collect();
+    assert_eq!(
+        leading.join(" "),
+        row.answer,
+        "{}, kind {}",
+        row.name,
+        row.case.kind
+    );
+}
+
+#[test]
+fn rows_of_the_document() {
+    rows().iter().for_each(agree);
+}
+
+#[test]
+#[ignore = "takes about 15 seconds"]
+fn rows_at_the_most_records() {
+    slow_rows().iter().for_each(agree);
+}
+
+/// "The planner: profit 7, outline 3 by 3, counts 1, 2, 1."
+#[test]
+fn pinwheel_counts() {
+    let job = text::read_job(b"1\n3 3 0\n3\n2 1 2 2\n1 2 2 2\n1 1 1 1\n").unwrap();
+    let plan = plan(&job, 2_000, 600).unwrap();
+    assert_eq!([0, 1, 2].map(|t| plan.best.counts.of(t)), [1, 2, 1]);
+}
+
+/// Ties: the least length, then the least width, then the counts.
+#[test]
+fn ties() {
+    // Two types of one profit: the second has the smaller size.
+    let job = text::read_job(b"1\n5 5 0\n2\n4 3 7 1\n3 4 7 1\n").unwrap();
+    let best = plan(&job, 2_000, 600).unwrap().best;
+    assert_eq!((best.profit, best.size.length, best.size.width), (7, 3, 4));
+    // Equal in everything but the type: counts 0,1 come before 1,0.
+    let job = text::read_job(b"1\n5 5 0\n2\n4 3 7 1\n4 3 7 1\n").unwrap();
+    let best = plan(&job, 2_000, 600).unwrap().best;
+    assert_eq!([0, 1].map(|t| best.counts.of(t)), [0, 1]);
+}
+
+/// Every number of a job on both sides of both ends of its range.
+#[test]
+fn ranges() {
+    let good = [10, 10, 1, 2, 3, 3, 9, 1, 4, 4, 16, 1];
+    let ends = [(1, 5_000), (1, 5_000), (0, 20), (1, 12)].into_iter();
+    let of_type = [(1, 5_000), (1, 5_000), (1, 25_000_000), (1, 50)];
+    let ends: Vec<(u64, u64)> = ends.chain(of_type).chain(of_type).collect();
+    let read = |numbers: &[u64]| {
+        let types = std::array::from_fn(|t| match t {
+            0 | 1 => std::array::from_fn(|i| numbers[4 + 4 * t + i]),
+            _ => [1, 1, 1, 1],
+        });
+        let sheet = [numbers[0], numbers[1], numbers[2]];
+        let count = numbers[3];
+        Job::from_numbers(&JobNumbers {
+            sheet,
+            count,
+            types,
+        })
+        .err()
+    };
+    assert_eq!(read(&good), None);
+    for (i, &(low, high)) in ends.iter().enumerate() {
+        let with = |number| {
+            let mut numbers = good;
+            numbers[i] = number;
+            read(&numbers)
+        };
+        let refused = Some(Refusal::OutOfRange(i + 1));
+        assert_eq!(with(low), None);
+        assert_eq!(with(high), None);
+        assert_eq!(with(high + 1), refused);
+        assert_eq!(with(u64::MAX), refused);
+        if low > 0 {
+            assert_eq!(with(low - 1), refused);
+        }
+    }
+}
+
+#[test]
+fn positions_of_any_size() {
+    let job = text::read_job(b"1\n10 6 0\n1\n5 3 15 4\n").unwrap();
+    for (x, y) in [
+        (u64::MAX, 0),
+        (0, u64::MAX),
+        (u64::MAX - 4, 0),
+        (1 << 32, 0),
+        (6, 0),
+        (0, 4),
+    ] {
+        let list = Placement::list(&[1, 5, 3, 1, x, y]);
+        assert_eq!(check(&job, &list), Err(Refusal::OutsideSheet(1)));
+    }
+    // One or two numbers are lost.
+    assert_eq!(check(&job, &Placement::list(&[1, 5, 3, 9])), Ok(15));
+    assert_eq!(check(&job, &Placement::list(&[1, 5, 3, 9, 9])), Ok(15));
+    assert_eq!(check(&job, &Placement::list(&[9, 9])), Ok(0));
+}
+
+#[test]
+fn builds_and_cuts_earn_the_same() {
+    for job in small_jobs(3).take(4_000) {
+        let outlines = Outlines::within(&job, usize::MAX).unwrap();
+        let built = outlines.best().map_or(0, |best| best.profit);
+        assert_eq!(built, topdown::optimum(&job), "{job:?}");
+    }
+}
+
+/// N and the best outline once more, on tiny jobs: all builds by joining all
+/// that is known until nothing new comes, each kept as written down.
+#[test]
+fn outlines_by_joining_everything() {
+    type Build = (u32, u32, Vec<u8>);
+    fn close(job: &Job) -> Vec<Build> {
+        let mut builds: Vec<Build> = Vec::new();
+        for t in (0..job.types.len()).filter(|&t| job.fits_alone(t)) {
+            let mut counts = vec![0; job.types.len()];
+            counts[t] = 1;
+            let grown = job.types[t].grown;
+            builds.push((grown.length, grown.width, counts));
+        }
+        let mut next = 0;
+        while next < builds.len() {
+            for other in 0..=next {
+                let (a, b) = (&builds[next], &builds[other]);
+                let counts: Vec<u8> = a.2.iter().zip(&b.2).map(|(i, j)| i + j).collect();
+                if counts.iter().zip(&job.types).any(|(&c, t)| c > t.demand) {
+                    continue;
+                }
+                let joins = [(a.0 + b.0, a.1.max(b.1)), (a.0.max(b.0), a.1 + b.1)];
+                for (length, width) in joins {
+                    let build = (length, width, counts.clone());
+                    let fits = length <= job.sheet.length && width <= job.sheet.width;
+                    if fits && !builds.contains(&build) {
+                        builds.push(build);
+                    }
+                }
+            }
+            next += 1;
+        }
+        builds
+    }
+    let mut compared = 0;
+    for job in small_jobs(4).take(3_000) {
+        let Some(outlines) = Outlines::within(&job, 250) else {
+            continue;
+        };
+        let builds = close(&job);
+        assert_eq!(outlines.number(), builds.len(), "{job:?}");
+        let profit = |b: &Build| -> u64 {
+            b.2.iter()
+                .zip(&job.types)
+                .map(|(&c, t)| u64::from(c) * t.profit)
+                .sum()
+        };
+        let mut builds = builds;
+        builds.sort_by(|a, b| profit(b).cmp(&profit(a)).then(a.cmp(b)));
+        match (outlines.best(), builds.first()) {
+            (Some(best), Some(build)) => {
+                let counts = (0..job.types.len()).map(|t| best.counts.of(t)).collect();
+                assert_eq!((best.size.length, best.size.width, counts), *build);
+            }
+            (None, None) => {}
+            other => panic!("{other:?}"),
+        }
+        compared += 1;
+    }
+    assert!(compared > 1_500, "only {compared} jobs were small enough");
+}
+
+/// "no accepted plan for that job earns more": every list of every tiny job.
+#[test]
+fn no_accepted_list_earns_more() {
+    /// The greatest profit among all accepted lists that go on from `list`; the
+    /// entries are taken in one fixed order, as the order of a list does not
+    /// matter for being accepted.
+    fn greatest(job: &Job, list: &mut Vec<Placement>, from: usize, all: &[Placement]) -> u64 {
+        let mut best = match check(job, list) {
+            Ok(profit) => profit,
+            // More pieces may not help a list that breaks a rule, and a set that
+            // cannot be parted has no larger set that can.
+            Err(_) => return 0,
+        };
+        for next in from..all.len() {
+            list.push(all[next]);
+            best = best.max(greatest(job, list, next + 1, all));
+            list.pop();
+        }
+        best
+    }
+    let mut tried = 0;
+    for job in small_jobs(6)
+        .filter(|j| j.sheet.length * j.sheet.width <= 9)
+        .take(400)
+    {
+        let mut all = Vec::new();
+        for kind in 1..=job.types.len() as u64 {
+            for x in 0..u64::from(job.sheet.length) {
+                for y in 0..u64::from(job.sheet.width) {
+                    all.push(Placement { kind, x, y });
+                }
+            }
+        }
+        let planned = match plan(&job, usize::MAX, 600) {
+            Ok(plan) => plan.best.profit,
+            Err(refusal) => {
+                assert_eq!(refusal, Refusal::NothingFits);
+                0
+            }
+        };
+        assert_eq!(greatest(&job, &mut Vec::new(), 0, &all), planned, "{job:?}");
+        tried += 1;
+    }
+    assert_eq!(tried, 400);
+}
+
+/// The first dividing line decides as well as any.
+#[test]
+fn parting_by_first_line_and_by_definition() {
+    let mut rng = Rng::new(9);
+    let mut parted = 0;
+    let count = 30_000;
+    for _ in 0..count {
+        // Random bars on a small grid, those that overlap left out.
+        let mut areas: Vec<Area> = Vec::new();
+        let side = rng.between(4, 9);
+        for _ in 0..*rng.pick(&[40, 400]) {
+            let (x, y) = (rng.below(side), rng.below(side));
+            let &(l, w) = rng.pick(&[(1, 2), (2, 1), (1, 3), (3, 1), (2, 4)]);
+            let area = Area {
+                x: (x, x + l),
+                y: (y, y + w),
+            };
+            let free = |a: &Area| {
+                a.x.1 <= area.x.0 || area.x.1 <= a.x.0 || a.y.1 <= area.y.0 || area.y.1 <= a.y.0
+            };
+            if areas.len() < 24 && areas.iter().all(free) {
+                areas.push(area);
+            }
+        }
+        let answer = can_be_parted(&areas);
+        assert_eq!(answer, can_be_parted_by_definition(&areas), "{areas:?}");
+        parted += u32::from(answer);
+    }
+    assert!((count / 10..count * 9 / 10).contains(&parted), "{parted}");
+}
+
+/// Our own answers pass, and answers with any one number changed do not.
+#[test]
+fn a_changed_answer_is_noticed() {
+    let mut rng = Rng::new(8);
+    for kind in 1..=4 {
+        let mut generator = Generator::new(kind, 77);
+        for _ in 0..300 {
+            let case = generator.case();
+            let line = answer(&case).unwrap();
+            compare(&case, &line).unwrap();
+            let mut words: Vec<u64> = line.split(' ').map(|w| w.parse().unwrap()).collect();
+            let at = rng.index(words.len());
+            words[at] += 1;
+            let changed: Vec<String> = words.iter().map(u64::to_string).collect();
+            let changed = changed.join(" ");
+            // A placement may be moved into a gap and still be right.
+            let head = if kind % 2 == 1 { 8 } else { 4 };
+            if at < head || words[0] != 0 || at >= head + 3 * words[5] as usize {
+                assert!(compare(&case, &changed).is_err(), "{line} and {changed}");
+            }
+            assert!(compare(&case, &format!("{line} 0")).is_err());
+            assert!(compare(&case, "").is_err());
+            if let Some((shorter, _)) = line.rsplit_once(' ') {
+                assert!(compare(&case, shorter).is_err());
+            }
+        }
+    }
+}
+
+#[test]
+fn files_of_cases() {
+    let mut bytes = Vec::new();
+    let rows = rows();
+    for row in &rows {
+        row.case.write(&mut bytes).unwrap();
+    }
+    let cases = Case::read_all(&bytes).unwrap();
+    assert_eq!(cases.len(), rows.len());
+    let lines: Vec<String> = cases.iter().map(|case| answer(case).unwrap()).collect();
+    let mut out = Vec::new();
+    assert!(verify(&cases, &(lines.join("\n") + "\n"), &mut out).unwrap());
+    let told = format!("{} cases, 0 wrong\n", rows.len());
+    assert_eq!(String::from_utf8(out).unwrap(), told);
+    // One answer too few.
+    let fewer = lines[1..].join("\n");
+    assert!(!verify(&cases[1..], &lines[2..].join("\n"), &mut Vec::new()).unwrap());
+    assert!(verify(&cases[1..], &fewer, &mut Vec::new()).unwrap());
+    assert!(Case::read_all(&bytes[..bytes.len() - 1]).is_err());
+}

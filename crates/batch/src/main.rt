@@ -42,6 +42,31 @@ const LARGEST: u64 = 18_446_744_073_709_551_615;
 
 const TENTH: u64 = 1_844_674_407_370_955_161;
 
+// The arrays come from functions that promise nothing but their length: so no proof meets a list of two million zeros.
+fn room_for_input() -> [u8; INPUT_SIZE]
+    ensures { λ r. ⌜ 2097152 ≡ length r ⌝ }
+{
+    [0; INPUT_SIZE]
+}
+
+fn room_for_arena() -> [u8; ARENA_SIZE]
+    ensures { λ r. ⌜ 2097280 ≡ length r ⌝ }
+{
+    [0; ARENA_SIZE]
+}
+
+fn room_for_numbers() -> [u64; NUMBERS_SIZE]
+    ensures { λ r. ⌜ 8192 ≡ length r ⌝ }
+{
+    [0; NUMBERS_SIZE]
+}
+
+fn room_for_line() -> [u8; LINE_SIZE]
+    ensures { λ r. ⌜ 172032 ≡ length r ⌝ }
+{
+    [0; LINE_SIZE]
+}
+
 // The value of a digit, or 10.
 fn digit(b: u8) -> u64 {
     if b < b'0' {
@@ -195,7 +220,7 @@ fn job_of(numbers: [u64; JOB_NUMBERS]) -> Job {
 }
 
 fn print_line(numbers: &[u64]) -> bool {
-    let mut out = [0u8; LINE_SIZE];
+    let mut out = room_for_line();
     if let Written::To(end) = writing::line(numbers, &mut out, 0) {
         return io::write_all(STDOUT_FILENO, &out[..end]);
     }
@@ -216,7 +241,7 @@ fn print_check(v: CheckVerdict) -> bool {
 // The numbers of the list stand behind those of the job; a job may have no list behind it.
 fn check_numbers(s: &[u8]) -> CheckVerdict {
     let mut numbers = [0u64; JOB_NUMBERS];
-    let mut list = [0u64; NUMBERS_SIZE];
+    let mut list = room_for_numbers();
     let from = read_row(s, 0, &mut numbers).next;
     let count = read_row_behind(s, from, &mut list);
     checking::check_list(job_of(numbers), &list[..count])
@@ -359,23 +384,10 @@ fn answer_all(s: &[u8], arena: &mut [u8], line: &mut [u64]) {
     }
 }
 
-// The arrays come from functions that promise nothing but their length: proofs then never meet a list of two million zeros.
-fn room_for_input() -> [u8; INPUT_SIZE]
-    ensures { λ r. ⌜ 2097152 ≡ length r ⌝ }
-{
-    [0; INPUT_SIZE]
-}
-
-fn room_for_arena() -> [u8; ARENA_SIZE]
-    ensures { λ r. ⌜ 2097280 ≡ length r ⌝ }
-{
-    [0; ARENA_SIZE]
-}
-
 fn main() {
     let mut input = room_for_input();
     let mut arena = room_for_arena();
-    let mut line = [0u64; NUMBERS_SIZE];
+    let mut line = room_for_numbers();
     let n = io::read_full(STDIN_FILENO, &mut input);
     answer_all(&input[..n], &mut arena, &mut line);
 }

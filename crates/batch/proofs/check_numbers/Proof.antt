@@ -6,6 +6,9 @@ use borrow.Author.Needs.{needs}
 use Rattle.batch.proofs.check_numbers.Statement.{statement}
 use Rattle.batch.proofs.check_numbers.Tie as tie
 
+room-for-numbers-requires : tie.Need-room-for-numbers-requires
+room-for-numbers-requires c κs = search needs
+
 slice-aggregate-read-row : tie.Need-slice-aggregate-read-row
 slice-aggregate-read-row c = search needs
 
@@ -37,6 +40,7 @@ pub check-numbers-spec : {M : Type 1} → statement M
 check-numbers-spec =
     tie.close
     (tie.spec
+    room-for-numbers-requires
     slice-aggregate-read-row
     read-row-requires
     slice-aggregate-read-row-behind

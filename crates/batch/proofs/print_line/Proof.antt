@@ -6,6 +6,9 @@ use borrow.Author.Needs.{needs}
 use Rattle.batch.proofs.print_line.Statement.{statement}
 use Rattle.batch.proofs.print_line.Tie as tie
 
+room-for-line-requires : tie.Need-room-for-line-requires
+room-for-line-requires c κs = search needs
+
 slice-aggregate-line : tie.Need-slice-aggregate-line
 slice-aggregate-line c = search needs
 
@@ -34,6 +37,7 @@ pub print-line-spec : {M : Type 1} → statement M
 print-line-spec =
     tie.close
     (tie.spec
+    room-for-line-requires
     slice-aggregate-line
     line-requires
     enum-known-end

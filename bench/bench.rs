@@ -2,8 +2,6 @@
 //! That both answer the same is asserted on each input.
 mod peer;
 
-use std::hint::black_box;
-
 #[repr(C)]
 struct Clock {
     seconds: i64,
@@ -42,8 +40,13 @@ fn side_by_side(runs: &mut [&mut dyn FnMut()]) -> Vec<f64> {
     times.into_iter().map(median).collect()
 }
 
+/// A value of which the compiler knows nothing. (std::hint::black_box is younger than the oldest Rust that this is built by.)
+fn black_box<T: Copy>(value: T) -> T {
+    unsafe { std::ptr::read_volatile(&value) }
+}
+
 /// An answer that nobody needs, but that the compiler must not leave out.
-fn black_box_only<T>(answer: T) {
+fn black_box_only<T: Copy>(answer: T) {
     black_box(answer);
 }
 

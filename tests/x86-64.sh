@@ -13,6 +13,7 @@ skip() {
 }
 
 need_library() {
+    mkdir -p target
     library=target/staticlib/libvarandeco.a
     if [ ! -f "$library" ] || [ -n "$(find crates crates.txt -newer "$library" -type f | head -n 1)" ]; then
         rt staticlib varandeco >target/staticlib.log 2>&1 || { cat target/staticlib.log; exit 1; }
@@ -20,6 +21,7 @@ need_library() {
 }
 
 install() {
+    mkdir -p target
     command -v apt-get >/dev/null && [ "$(id -u)" = 0 ] || return 1
     { apt-get update && DEBIAN_FRONTEND=noninteractive apt-get install -y --no-install-recommends "$@"; } >target/apt.log 2>&1
 }
@@ -43,7 +45,7 @@ need_rustc() {
     for RUSTC in "${RUSTC:-rustc}" /usr/bin/rustc; do
         has_rust && return
     done
-    [ "$(uname -m)" = x86_64 ] || { dpkg --add-architecture amd64 && install rustc libstd-rust-dev:amd64; }
+    [ "$(uname -m)" = x86_64 ] || { dpkg --add-architecture amd64 && install rustc libstd-rust-dev:amd64; } || true
     has_rust || skip "no Rust for $target (Debian: rustc libstd-rust-dev:amd64)"
 }
 

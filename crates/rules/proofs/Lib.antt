@@ -14,6 +14,7 @@ pub mod Bridge
 pub mod Order
 pub mod Lay
 pub mod Outlines
+pub mod Classes
 pub mod Planning
 pub mod Unfold
 pub mod Reorder

@@ -1,8 +1,9 @@
 -- Builds class by class, a class being all builds with the same counts: a build less one piece of a type it has is a build,
 -- so that each class is reached from a class with one piece less of its last type; and when a class, and the whole list, is complete. Assumes nothing.
 use mathlib.Core.Path.{_≡_, refl, sym, ap, _∙_, subst}
-use mathlib.Core.List.{List, [], _∷_, map, List·Memᴰ, Memᴰ·cast}
-use Prim.Native.Nat.{ℕ, zero, suc, _+_, _*_, _≤_, _<_}
+use mathlib.Core.Logic.{_⊎_, inl, inr}
+use mathlib.Core.List.{List, [], _∷_, map, List·Memᴰ}
+use Prim.Native.Nat.{ℕ, zero, suc, _+_, _*_, _≤_, _<_, max}
 use native.Mathlib.Omega.{arith}
 use native.Mathlib.Nat.{max-comm}
 use native.Mathlib.Decide.{decLe, decLt}
@@ -12,7 +13,7 @@ use Rattle.rules.specs.Box.{Way, along, across}
 use Rattle.rules.specs.Made.{one, beside, above}
 use Rattle.rules.specs.Job.{Job, Outline, Fits, Build, building, AtMost, plus, pieces, types, alone, horizontal, vertical}
 use Rattle.rules.proofs.Bags.{all-at, from-map}
-use Rattle.rules.proofs.Tally.{Typed, sum-plus, sum-unit}
+use Rattle.rules.proofs.Tally.{Typed, length-plus, sum-plus, sum-unit}
 use Rattle.rules.proofs.Bridge.{join, join-counts, made-join}
 use Rattle.rules.proofs.Outlines.{counts-length}
 use Rattle.rules.proofs.Worklist.{index}
@@ -211,33 +212,30 @@ module _ {j : Job} (typed : All (λ p. Typed j (p .type)) (j .singles)) where
   one-less (beside p q k) t h s = less-join along p q k t h (λ x y. one-less p t x y) (λ x y. one-less q t x y)
   one-less (above p q k) t h s = less-join across p q k t h (λ x y. one-less p t x y) (λ x y. one-less q t x y)
 
-module _ (j : Job) (l : List Outline) where
-  -- every piece that fits alone is in the list
-  abbrev pub StartsIn : Type 0
-  StartsIn = (o : Outline) → building j .Start o → Fits j o → List·Memᴰ o l
+-- P stands for what is wanted of every build
+module _ (j : Job) (P : Outline → Type 0) where
+  -- of every piece that fits alone
+  abbrev pub Starts : Type 0
+  Starts = (o : Outline) → building j .Start o → Fits j o → P o
 
-  -- every build with these counts is in the list
-  abbrev pub ClassIn : List ℕ → Type 0
-  ClassIn c = (o : Outline) → Build j o → o .counts ≡ c → List·Memᴰ o l
+  -- of every build with these counts
+  abbrev pub Class : List ℕ → Type 0
+  Class c = (o : Outline) → Build j o → o .counts ≡ c → P o
 
-  -- the classes that are reached from an outline are in the list: one piece more of a type, its last or a later one
-  abbrev pub NextIn : Outline → Type 0
-  NextIn a = (t : ℕ) → t < types j → NoneAfter t (a .counts) → ClassIn (oneMore t (a .counts))
+  -- of the classes that are reached from an outline: one piece more of a type, its last or a later one
+  abbrev pub Next : Outline → Type 0
+  Next a = (t : ℕ) → t < types j → NoneAfter t (a .counts) → Class (oneMore t (a .counts))
 
-  -- every build with fewer than s pieces is in the list
+  -- of every build with fewer than s pieces
   abbrev pub Below : ℕ → Type 0
-  Below s = (o : Outline) → Build j o → pieces o < s → List·Memᴰ o l
+  Below s = (o : Outline) → Build j o → pieces o < s → P o
 
-  -- both joins of two outlines are in the list if they fit
-  abbrev pub JoinsIn : Outline → Outline → Type 0
-  JoinsIn a b = (w : Way) → Fits j (join w a b) → List·Memᴰ (join w a b) l
-
--- d stands for what lies past the end of a list
+-- outlines in order of their pieces; d stands for what lies past the end of a list
 abbrev pub Rising : Outline → List Outline → Type 0
 Rising d l = (p q : ℕ) → p < q → q < length l → pieces (getD l p d) ≤ pieces (getD l q d)
 
-module _ {j : Job} (typed : All (λ p. Typed j (p .type)) (j .singles)) (l : List Outline) where
-  next-step : (n : ℕ) → ((a : Outline) → List·Memᴰ a l → pieces a < suc n → NextIn j l a) → ((a : Outline) → Build j a → pieces a ≤ n → List·Memᴰ a l) → (o : Outline) → Build j o → 2 ≤ pieces o → pieces o ≤ suc n → List·Memᴰ o l
+module _ {j : Job} (typed : All (λ p. Typed j (p .type)) (j .singles)) (P : Outline → Type 0) where
+  next-step : (n : ℕ) → ((a : Outline) → P a → pieces a < suc n → Next j P a) → ((a : Outline) → Build j a → pieces a ≤ n → P a) → (o : Outline) → Build j o → 2 ≤ pieces o → pieces o ≤ suc n → P o
   next-step n next f o d two h =
       let t = last-type (o .counts) (omega arith) in
       let r = one-less typed d (t .type) (t .has) two in
@@ -248,43 +246,166 @@ module _ {j : Job} (typed : All (λ p. Typed j (p .type)) (j .singles)) (l : Lis
       next (r .outline) m (omega arith) (t .type) (omega (arith, t .among, counts-length d)) (none-after-less (t .type) (r .outline .counts) (subst (NoneAfter (t .type)) (sym c) (t .last))) o d (sym c)
 
   -- builds are reached one piece after the other
-  reached : StartsIn j l → (n : ℕ) → ((a : Outline) → List·Memᴰ a l → pieces a < n → NextIn j l a) → (o : Outline) → Build j o → pieces o ≤ n → List·Memᴰ o l
+  reached : Starts j P → (n : ℕ) → ((a : Outline) → P a → pieces a < n → Next j P a) → (o : Outline) → Build j o → pieces o ≤ n → P o
   reached st zero next o d h = absurd (omega (arith, some-pieces typed d))
   reached st (suc n) next o (one m k) h = st o m k
   reached st (suc n) next o (beside p q k) h = next-step n next (reached st n (λ a m x. next a m (omega arith))) o (beside p q k) (omega (arith, join-pieces typed along p q, some-pieces typed p, some-pieces typed q)) h
   reached st (suc n) next o (above p q k) h = next-step n next (reached st n (λ a m x. next a m (omega arith))) o (above p q k) (omega (arith, join-pieces typed across p q, some-pieces typed p, some-pieces typed q)) h
 
-  -- a list that is walked in order of pieces holds every build with no more pieces than the outline it has come to
-  pub below-in : (d : Outline) → StartsIn j l → Rising d l → (p : ℕ) → ((q : ℕ) → q < p → NextIn j l (getD l q d)) → Below j l (suc (pieces (getD l p d)))
-  below-in d st rise p next o b h = reached st (pieces (getD l p d)) (λ a m x. go a x (index d m)) o b (omega arith)
-    where
-      before : (q : ℕ) → q < length l → pieces (getD l q d) < pieces (getD l p d) → Dec (q < p) → q < p
-      before q k x (yes y) = y
-      before q k x (no y) = absurd (after (decLt p q))
-        where
-          after : Dec (p < q) → ⊥
-          after (yes z) = omega (arith, rise p q z k)
-          after (no z) = let e : p ≡ q = omega arith in omega (arith, ap (λ i. pieces (getD l i d)) e)
-
-      go : (a : Outline) → pieces a < pieces (getD l p d) → (i : ℕ) × (i < length l) × (getD l i d ≡ a) → NextIn j l a
-      go a x r = subst (NextIn j l) (r .2) (next (r .0) (before (r .0) (r .1) (omega (arith, ap pieces (r .2))) (decLt (r .0) p)))
-
-  -- and walked to its end it holds every build
-  pub all-in : (d : Outline) → StartsIn j l → ((q : ℕ) → q < length l → NextIn j l (getD l q d)) → (o : Outline) → Build j o → List·Memᴰ o l
-  all-in d st next o b = reached st (pieces o) (λ a m x. let r = index d m in subst (NextIn j l) (r .2) (next (r .0) (r .1))) o b (omega arith)
-
-  module _ (c : List ℕ) (below : Below j l (sum c)) (pairs : (a b : Outline) → List·Memᴰ a l → List·Memᴰ b l → plus (a .counts) (b .counts) ≡ c → 2 * pieces a ≤ sum c → JoinsIn j l a b) where
-    join-in : (w : Way) {a b : Outline} → Build j a → Build j b → Fits j (join w a b) → join w a b .counts ≡ c → List·Memᴰ (join w a b) l
-    join-in w {a} {b} p q k e =
-        let s : pieces a + pieces b ≡ sum c = sym (join-pieces typed w p q) ∙ ap sum e in
-        go s (below a p (omega (arith, some-pieces typed q))) (below b q (omega (arith, some-pieces typed p))) (decLe (2 * pieces a) (sum c))
+  -- a list that holds what has P
+  module _ (d : Outline) (l : List Outline) (here : (o : Outline) → P o → List·Memᴰ o l) (st : Starts j P) where
+    -- it is walked in order of pieces: every build has P that has no more pieces than the outline at which the walk has come
+    pub below-in : Rising d l → (p : ℕ) → ((q : ℕ) → q < p → Next j P (getD l q d)) → Below j P (suc (pieces (getD l p d)))
+    below-in rise p next o b h = reached st (pieces (getD l p d)) (λ a m x. go a x (index d (here a m))) o b (omega arith)
       where
-        go : pieces a + pieces b ≡ sum c → List·Memᴰ a l → List·Memᴰ b l → Dec (2 * pieces a ≤ sum c) → List·Memᴰ (join w a b) l
-        go s ma mb (yes h) = pairs a b ma mb (sym (join-counts w a b) ∙ e) h w k
-        go s ma mb (no h) = Memᴰ·cast (join-comm w a b) (pairs b a mb ma (plus-comm (b .counts) (a .counts) ∙ sym (join-counts w a b) ∙ e) (omega arith) w (subst (Fits j) (join-comm w a b) k))
+        before : (q : ℕ) → q < length l → pieces (getD l q d) < pieces (getD l p d) → Dec (q < p) → q < p
+        before q k x (yes y) = y
+        before q k x (no y) = absurd (after (decLt p q))
+          where
+            after : Dec (p < q) → ⊥
+            after (yes z) = omega (arith, rise p q z k)
+            after (no z) = let e : p ≡ q = omega arith in omega (arith, ap (λ i. pieces (getD l i d)) e)
 
-    -- a class is in the list when the joins of all pairs that add up to its counts are, the half with fewer pieces first
-    pub class-in : 2 ≤ sum c → ClassIn j l c
+        go : (a : Outline) → pieces a < pieces (getD l p d) → (i : ℕ) × (i < length l) × (getD l i d ≡ a) → Next j P a
+        go a x r = subst (Next j P) (r .2) (next (r .0) (before (r .0) (r .1) (omega (arith, ap pieces (r .2))) (decLt (r .0) p)))
+
+    -- walked to its end, every build has P
+    pub all-in : ((q : ℕ) → q < length l → Next j P (getD l q d)) → (o : Outline) → Build j o → P o
+    all-in next o b = reached st (pieces o) (λ a m x. let r = index d (here a m) in subst (Next j P) (r .2) (next (r .0) (r .1))) o b (omega arith)
+
+-- joins in one way associate, so that the first half of one may be kept to builds with another last step
+abbrev pub turned : Way → Way
+turned along = across
+turned across = along
+
+-- a piece alone, or a build whose last step is a join in this way
+pub data Ends (j : Job) (w : Way) : Outline → Type 0 where
+  ends-alone : {o : Outline} → building j .Start o → Fits j o → Ends j w o
+  ends-join : {a b : Outline} → Build j a → Build j b → Fits j (join w a b) → Ends j w (join w a b)
+
+pub ends-build : {j : Job} {w : Way} {o : Outline} → Ends j w o → Build j o
+ends-build (ends-alone m k) = one m k
+ends-build {w = w} (ends-join p q k) = made-join w p q k
+
+plus-assoc : (a b c : List ℕ) → plus (plus a b) c ≡ plus a (plus b c)
+plus-assoc [] b c = refl
+plus-assoc (x ∷ a) [] c = refl
+plus-assoc (x ∷ a) (y ∷ b) [] = refl
+plus-assoc (x ∷ a) (y ∷ b) (z ∷ c) = let e : x + y + z ≡ x + (y + z) = omega arith in λ i. e i ∷ plus-assoc a b c i
+
+join-assoc : (w : Way) (a b c : Outline) → join w (join w a b) c ≡ join w a (join w b c)
+join-assoc along a b c =
+    let l : a .long + b .long + c .long ≡ a .long + (b .long + c .long) = omega arith in
+    let m : max (max (a .wide) (b .wide)) (c .wide) ≡ max (a .wide) (max (b .wide) (c .wide)) = omega arith in
+    λ i. record { long = l i; wide = m i; counts = plus-assoc (a .counts) (b .counts) (c .counts) i }
+join-assoc across a b c =
+    let l : a .wide + b .wide + c .wide ≡ a .wide + (b .wide + c .wide) = omega arith in
+    let m : max (max (a .long) (b .long)) (c .long) ≡ max (a .long) (max (b .long) (c .long)) = omega arith in
+    λ i. record { long = m i; wide = l i; counts = plus-assoc (a .counts) (b .counts) (c .counts) i }
+
+at-most-second : (a b d : List ℕ) → length a ≡ length b → AtMost (plus a b) d → AtMost b d
+at-most-second [] [] d e h = tt
+at-most-second [] (y ∷ b) d e h = absurd (omega arith)
+at-most-second (x ∷ a) [] d e h = absurd (omega arith)
+at-most-second (x ∷ a) (y ∷ b) [] e h = absurd h
+at-most-second (x ∷ a) (y ∷ b) (z ∷ d) e h = (omega (arith, h .0), at-most-second a b d (omega arith) (h .1))
+
+fits-second : {j : Job} (w : Way) (a b : Outline) → length (a .counts) ≡ length (b .counts) → Fits j (join w a b) → Fits j b
+fits-second {j} along a b e f = record { long = omega (arith, f .long); wide = omega (arith, f .wide); counts = at-most-second (a .counts) (b .counts) (j .demands) e (f .counts) }
+fits-second {j} across a b e f = record { long = omega (arith, f .long); wide = omega (arith, f .wide); counts = at-most-second (a .counts) (b .counts) (j .demands) e (f .counts) }
+
+length-join : (w : Way) (a b : Outline) → length (a .counts) ≡ length (b .counts) → length (join w a b .counts) ≡ length (a .counts)
+length-join w a b e = ap length (join-counts w a b) ∙ length-plus (a .counts) (b .counts) e
+
+-- a join in a way, its first half of another last step
+pub record Split (j : Job) (w : Way) (o : Outline) : Type 0 where
+  pub first : Outline
+  pub rest : Outline
+  pub ends : Ends j (turned w) first
+  pub build : Build j rest
+  pub whole : join w first rest ≡ o
+
+module _ {j : Job} (typed : All (λ p. Typed j (p .type)) (j .singles)) where
+  -- the second and the third of three go together
+  later-two : (w : Way) {a b c : Outline} → Build j a → Build j b → Build j c → Fits j (join w (join w a b) c) → Fits j (join w b c)
+  later-two w {a} {b} {c} p q r f =
+      fits-second w a (join w b c) (same-types typed p q ∙ sym (length-join w b c (same-types typed q r))) (subst (Fits j) (join-assoc w a b c) f)
+
+  split : (w : Way) {a b : Outline} → Build j a → Build j b → Fits j (join w a b) → Split j w (join w a b)
+  split w {a} {b} (one m k) q f = record { first = a; rest = b; ends = ends-alone m k; build = q; whole = refl }
+  split along {b = b} (beside {a = x} {b = y} p r k) q f =
+      let g = later-two along p r q f in
+      let e = join-assoc along x y b in
+      subst (Split j along) (sym e) (split along p (beside r q g) (subst (Fits j) e f))
+  split along {a} {b} (above p r k) q f = record { first = a; rest = b; ends = ends-join p r k; build = q; whole = refl }
+  split across {a} {b} (beside p r k) q f = record { first = a; rest = b; ends = ends-join p r k; build = q; whole = refl }
+  split across {b = b} (above {a = x} {b = y} p r k) q f =
+      let g = later-two across p r q f in
+      let e = join-assoc across x y b in
+      subst (Split j across) (sym e) (split across p (above r q g) (subst (Fits j) e f))
+
+  -- the rest of a split, split in turn, or with that other last step itself
+  again : (w : Way) {o : Outline} → Build j o → Ends j (turned w) o ⊎ Split j w o
+  again w (one m k) = inl (ends-alone m k)
+  again along (beside p q k) = inr (split along p q k)
+  again along (above p q k) = inl (ends-join p q k)
+  again across (beside p q k) = inl (ends-join p q k)
+  again across (above p q k) = inr (split across p q k)
+
+  pub record Halved (w : Way) (o : Outline) : Type 0 where
+    pub parts : Split j w o
+    pub half : 2 * pieces (parts .first) ≤ pieces o
+
+  -- and one with at most half the pieces can be taken for the first half
+  pub halved : (w : Way) {a b : Outline} → Build j a → Build j b → Fits j (join w a b) → Halved w (join w a b)
+  halved w {a} {b} p q f = go (split w p q f) (decLe (2 * pieces (split w p q f .first)) (pieces (join w a b)))
+    where
+      swapped : (s : Split j w (join w a b)) → pieces (join w a b) < 2 * pieces (s .first) → Ends j (turned w) (s .rest) ⊎ Split j w (s .rest) → Halved w (join w a b)
+      swapped s h (inl e) = record {
+        parts = record { first = s .rest; rest = s .first; ends = e; build = ends-build (s .ends); whole = join-comm w (s .rest) (s .first) ∙ s .whole };
+        half = omega (arith, join-pieces typed w (ends-build (s .ends)) (s .build), ap pieces (s .whole));
+      }
+      swapped s h (inr r) =
+          let x = ends-build (s .ends) in
+          let y = ends-build (r .ends) in
+          let e : join w (r .first) (join w (s .first) (r .rest)) ≡ join w a b =
+          sym (join-assoc w (r .first) (s .first) (r .rest)) ∙ ap (λ u. join w u (r .rest)) (join-comm w (r .first) (s .first)) ∙ join-assoc w (s .first) (r .first) (r .rest) ∙ ap (join w (s .first)) (r .whole) ∙ s .whole in
+          let k = fits-second w (r .first) (join w (s .first) (r .rest)) (same-types typed y x ∙ sym (length-join w (s .first) (r .rest) (same-types typed x (r .build)))) (subst (Fits j) (sym e) f) in
+          record {
+            parts = record { first = r .first; rest = join w (s .first) (r .rest); ends = r .ends; build = made-join w x (r .build) k; whole = e };
+            half = omega (arith, join-pieces typed w x (s .build), ap pieces (s .whole), join-pieces typed w y (r .build), ap pieces (r .whole));
+          }
+
+      go : (s : Split j w (join w a b)) → Dec (2 * pieces (s .first) ≤ pieces (join w a b)) → Halved w (join w a b)
+      go s (yes h) = record { parts = s; half = h }
+      go s (no h) = swapped s (omega arith) (again w (s .build))
+
+-- a list of outlines with marks: M w o if o is marked as a build that ends in way w
+pub record Marked (j : Job) (l : List Outline) (M : Way → Outline → Type 0) (o : Outline) : Type 0 where
+  pub here : List·Memᴰ o l
+  pub marks : (w : Way) → Ends j w o → M w o
+
+module _ {j : Job} (typed : All (λ p. Typed j (p .type)) (j .singles)) (l : List Outline) (M : Way → Outline → Type 0) (c : List ℕ) where
+  module _ (below : Below j (Marked j l M) (sum c))
+      (pairs : (w : Way) (a b : Outline) → M (turned w) a → List·Memᴰ b l → plus (a .counts) (b .counts) ≡ c → 2 * pieces a ≤ sum c → Fits j (join w a b) → List·Memᴰ (join w a b) l × M w (join w a b)) where
+    join-in : (w : Way) {a b : Outline} → Build j a → Build j b → Fits j (join w a b) → join w a b .counts ≡ c → List·Memᴰ (join w a b) l × M w (join w a b)
+    join-in w {a} {b} p q k e =
+        let s = halved typed w p q k in
+        let t = s .parts in
+        let x = ends-build (t .ends) in
+        let v = t .whole in
+        let z : pieces (t .first) + pieces (t .rest) ≡ sum c = sym (join-pieces typed w x (t .build)) ∙ ap pieces v ∙ ap sum e in
+        let f = below (t .first) x (omega (arith, some-pieces typed (t .build))) .marks (turned w) (t .ends) in
+        let g = below (t .rest) (t .build) (omega (arith, some-pieces typed x)) .here in
+        subst (λ u. List·Memᴰ u l × M w u) v (pairs w (t .first) (t .rest) f g (sym (join-counts w (t .first) (t .rest)) ∙ ap (λ (u : Outline). u .counts) v ∙ e) (omega (arith, s .half, ap sum e)) (subst (Fits j) (sym v) k))
+
+    marks-in : 2 ≤ sum c → (o : Outline) → o .counts ≡ c → (w : Way) → Ends j w o → M w o
+    marks-in two o e w (ends-alone m k) = absurd (omega (arith, single-pieces typed m, ap sum e))
+    marks-in two o e w (ends-join p q k) = join-in w p q k e .1
+
+    -- a class is complete when the joins of all pairs that add up to its counts are in the list, and marked:
+    -- the first half with at most half of the pieces, and marked as one that ends in the other way
+    pub class-in : 2 ≤ sum c → Class j (Marked j l M) c
     class-in two o (one m k) e = absurd (omega (arith, single-pieces typed m, ap sum e))
-    class-in two o (beside p q k) e = join-in along p q k e
-    class-in two o (above p q k) e = join-in across p q k e
+    class-in two o (beside p q k) e = record { here = join-in along p q k e .0; marks = marks-in two o e }
+    class-in two o (above p q k) e = record { here = join-in across p q k e .0; marks = marks-in two o e }

@@ -1,6 +1,7 @@
 // Records of 32 bytes in the lent arena: an outline, and how it was made.
 // Whoever lists, chooses or unfolds outlines calls this crate, and speaks of records from here on: the bytes of the arena are nobody else's.
-// Bytes 0 to 11 hold the counts, then two bytes each the length, the width and the two halves, one byte how it was made; the rest is 0 and free.
+// Bytes 0 to 11 hold the counts, then two bytes each the length, the width and the two halves, one byte how it was made; from byte 22 on stand five links,
+// numbers of two bytes that whoever lists outlines keeps there. A record that is written has links 0.
 use outline::Across;
 use outline::Along;
 use outline::Outline;
@@ -16,7 +17,7 @@ ghost use Rattle.rules.specs.Planner.{roomOf};
 ghost use Rattle.rules.proofs.Outlines.{sameList, sameOutline};
 ghost use Rattle.outline.specs.Stands.{outlineOf, twoBytes};
 ghost use Rattle.arena.specs.Bytes.{word, putWord, behind, linkOf, howOf, encode, decode};
-ghost use Rattle.arena.specs.Records.{recordAt, Storable, Stored, Loaded};
+ghost use Rattle.arena.specs.Records.{recordAt, sizeOf, linkAt, linksMost, Storable, StoredAlone, Loaded, Linkable, Linked};
 
 // A piece of a type, numbered from 1, or a join of two records that stand before.
 pub enum How {
@@ -39,6 +40,8 @@ const FIRST_AT: usize = 16;
 const SECOND_AT: usize = 18;
 
 const KIND_AT: usize = 20;
+
+const LINKS_AT: usize = 22;
 
 // `How` in numbers: 0 for a piece, 1 for a join beside, 2 for a join above.
 pub struct Link {
@@ -205,7 +208,7 @@ fn read(s: &[u8]) -> Record
 // Writes record i.
 pub fn store(arena: &mut [u8], i: usize, r: Record)
     requires { ⌜ Storable (now arena) i r ⌝ }
-    ensures { λ _. ⌜ Stored i r (now (arena .entry)) (now (arena .exit)) ⌝ }
+    ensures { λ _. ⌜ StoredAlone i r (now (arena .entry)) (now (arena .exit)) ⌝ }
 {
     let at = i * RECORD_BYTES;
     let end = at + RECORD_BYTES;
@@ -260,4 +263,38 @@ pub fn same_at(arena: &[u8], i: usize, o: Outline, types: usize) -> bool
     let at = i * RECORD_BYTES;
     let end = at + RECORD_BYTES;
     same(&arena[at..end], o, types)
+}
+
+// Reads link k of record i.
+pub fn link_at(arena: &[u8], i: usize, k: usize) -> usize
+    requires { ⌜ (i < roomOf (length (now arena))) × (k < linksMost) ⌝ }
+    ensures { λ r. ⌜ (r ≡ linkAt (now (arena .entry)) i k) × (r < twoBytes) ⌝ }
+{
+    get(arena, i * RECORD_BYTES + LINKS_AT + 2 * k) as usize
+}
+
+// Writes link k of record i: no record, and no other link, is touched.
+pub fn put_link(arena: &mut [u8], i: usize, k: usize, v: usize)
+    requires { ⌜ Linkable (now arena) i k v ⌝ }
+    ensures { λ _. ⌜ Linked i k v (now (arena .entry)) (now (arena .exit)) ⌝ }
+{
+    put(arena, i * RECORD_BYTES + LINKS_AT + 2 * k, v as u64);
+}
+
+// The size of record i in a way: its length for 0, its width for 1.
+pub fn size_at(arena: &[u8], i: usize, way: usize) -> u64
+    requires { ⌜ (i < roomOf (length (now arena))) × (way < 2) ⌝ }
+    ensures { λ r. ⌜ (r ≡ sizeOf way (recordAt (now (arena .entry)) i .outline)) × (r < twoBytes) ⌝ }
+{
+    get(arena, i * RECORD_BYTES + LENGTH_AT + 2 * way)
+}
+
+// Record i has these counts, for a job of so many types.
+pub fn counts_at(arena: &[u8], i: usize, counts: [u8; TYPES_MOST], types: usize) -> bool
+    requires { ⌜ (i < roomOf (length (now arena))) × (types ≤ typesMost) ⌝ }
+    ensures { λ r. ⌜ r ≡ sameList (take types counts) (take types (recordAt (now (arena .entry)) i .outline .counts)) ⌝ }
+{
+    let at = i * RECORD_BYTES;
+    let end = at + RECORD_BYTES;
+    same_counts(&arena[at..end], counts, types)
 }

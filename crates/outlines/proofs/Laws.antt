@@ -42,7 +42,7 @@ use Rattle.outlines.proofs.Lists.{mem-at, row-grow, upto-grow, sound-mo
 pub length-outlines : (job : Job) (s : List ℕ) (n : ℕ) → length (outlinesIn job s n) ≡ n
 length-outlines job s n = length-map (recsIn job s n) (λ (x : Rec). x .outline) ∙ length-recs (job .count) n s
 
-outline-at : (k : ℕ) (s : List ℕ) (n i : ℕ) → i < n → getD (outlinesOf (recs k n s)) i noOutline ≡ outlineOf k (recordAt s i .outline)
+pub outline-at : (k : ℕ) (s : List ℕ) (n i : ℕ) → i < n → getD (outlinesOf (recs k n s)) i noOutline ≡ outlineOf k (recordAt s i .outline)
 outline-at k s n i h = List·getD-map (λ (x : Rec). x .outline) (recs k n s) i noRec ∙ ap (λ (x : Rec). x .outline) (recs-at k n s i h)
 
 -- looking for an outline

@@ -11,7 +11,7 @@ use lib.ListN.{length, getD}
 use Rattle.rules.specs.Bag.{sum, All}
 use Rattle.rules.specs.Box.{Way, along, across}
 use Rattle.rules.specs.Made.{one, beside, above}
-use Rattle.rules.specs.Job.{Job, Outline, Fits, Build, building, AtMost, plus, pieces, types, alone, horizontal, vertical}
+use Rattle.rules.specs.Job.{Job, Outline, Fits, Build, building, AtMost, plus, pieces, types, alone}
 use Rattle.rules.proofs.Bags.{all-at, from-map}
 use Rattle.rules.proofs.Tally.{Typed, length-plus, sum-plus, sum-unit}
 use Rattle.rules.proofs.Bridge.{join, join-counts, made-join}

@@ -48,7 +48,7 @@ returns-3 c =
     let e = w .before .before in
     let n = e .before .before in
     let st = n .before .before .before .before in
-    added (st .args .job) (st .args .arena .now) (st .args .n) (st .args .build) (st .pre) _ (λ p. e .if2 .left (p ∙ sym (e .before .room .ensures))) (n .before .holds .ensures .no-if (n .if1 .left)) (w .store .ensures)
+    added (st .args .job) (st .args .arena .now) (st .args .n) (st .args .build) (st .pre) _ (λ p. e .if2 .left (p ∙ sym (e .before .room .ensures))) (n .before .holds .ensures .no-if (n .if1 .left)) (w .store .ensures .stored)
 
 pub add-spec : {M : Type 1} → statement M
 add-spec =

@@ -1,0 +1,108 @@
+-- `classes::find` meets its contract. Assumes nothing.
+use Prim.Native.Nat.{suc, _-_}
+use native.Mathlib.Omega.{arith}
+use mathlib.Core.Path.{_≡_, sym, ap, _∙_, subst}
+use lib.ListN.{take}
+use Rattle.classes.specs.Directory.{bucketOf}
+use Rattle.classes.proofs.Laws.{Chase, chase-start, chase-at, chase-room, chase-next, chase-found, chase-end}
+use borrow.Author.Needs.{needs}
+use Rattle.classes.proofs.find.Statement.{statement}
+use Rattle.classes.proofs.find.Tie as tie
+
+abbrev Inv-loop : tie.InvT-loop
+Inv-loop arena n counts types room p₀ p = Chase types arena n (take types counts) p
+
+abbrev μ-loop : tie.MeasureT-loop
+μ-loop arena n counts types room p₀ p = p
+
+room-requires : tie.Need-room-requires Inv-loop μ-loop
+room-requires c κs = search needs
+
+returns : tie.Need-returns Inv-loop μ-loop
+returns c =
+    let st = c .before .before .before in
+    λ q l e. omega (arith, st .pre .0 .room, c .before .room .ensures, c .if1 .taken)
+
+bucket-requires : tie.Need-bucket-requires Inv-loop μ-loop
+bucket-requires c κs = search needs
+
+link-at-requires : tie.Need-link-at-requires Inv-loop μ-loop
+link-at-requires c κs = search needs
+
+loop-holds : tie.Need-loop-holds Inv-loop μ-loop
+loop-holds c =
+    let b = c .before in
+    let rm = b .before .before in
+    let st = rm .before .before in
+    let key = take (st .args .types) (st .args .counts) in
+    let e = b .bucket .ensures in
+    subst (Chase (st .args .types) (st .args .arena .now) (st .args .n) key) (sym (c .link-at .ensures .0))
+    (chase-start key (st .pre .0) (b .bucket .result) (omega (arith, e .1, rm .room .ensures)) (e .0 ∙ ap (λ k. bucketOf k key) (rm .room .ensures)))
+
+sub-at : tie.Need-sub-at Inv-loop μ-loop
+sub-at c = search needs
+
+counts-at-requires : tie.Need-counts-at-requires Inv-loop μ-loop
+counts-at-requires c κs =
+    let at = c .before in
+    let st = at .before .before .before .before .before .before in
+    let e : at .loop .p ≡ suc (at .loop .p - 1) = omega (arith, c .loop-test .taken) in
+    (chase-room _ (st .pre .0) (at .loop .inv) _ e, st .pre .1)
+
+returns-2 : tie.Need-returns-2 Inv-loop μ-loop
+returns-2 c =
+    let ca = c .before in
+    let il = ca .before in
+    let at = il .before in
+    let e : at .loop .p ≡ suc (at .loop .p - 1) = omega (arith, il .loop-test .taken) in
+    chase-found _ _ (chase-at _ (at .loop .inv) _ e .0) (sym (ca .counts-at .ensures) ∙ c .if2 .taken)
+
+link-at-requires-2 : tie.Need-link-at-requires-2 Inv-loop μ-loop
+link-at-requires-2 c κs =
+    let il = c .before .before in
+    let at = il .before in
+    let st = at .before .before .before .before .before .before in
+    let e : at .loop .p ≡ suc (at .loop .p - 1) = omega (arith, il .loop-test .taken) in
+    (chase-room _ (st .pre .0) (at .loop .inv) _ e, omega arith)
+
+loop-less : tie.Need-loop-less Inv-loop μ-loop
+loop-less c =
+    let il = c .before .before .before in
+    let at = il .before in
+    let e : at .loop .p ≡ suc (at .loop .p - 1) = omega (arith, il .loop-test .taken) in
+    omega (arith, chase-at _ (at .loop .inv) _ e .1, c .link-at2 .ensures .0, il .loop-test .taken)
+
+loop-again : tie.Need-loop-again Inv-loop μ-loop
+loop-again c =
+    let ca = c .before .before in
+    let il = ca .before in
+    let at = il .before in
+    let st = at .before .before .before .before .before .before in
+    let e : at .loop .p ≡ suc (at .loop .p - 1) = omega (arith, il .loop-test .taken) in
+    subst (Chase (st .args .types) (st .args .arena .now) (st .args .n) (take (st .args .types) (st .args .counts))) (sym (c .link-at2 .ensures .0))
+    (chase-next _ (at .loop .inv) _ e (sym (ca .counts-at .ensures) ∙ c .before .if2 .left))
+
+returns-3 : tie.Need-returns-3 Inv-loop μ-loop
+returns-3 c =
+    let at = c .before in
+    let st = at .before .before .before .before .before .before in
+    chase-end _ (st .pre .0) (at .loop .inv) (omega (arith, c .loop-test .left))
+
+pub find-spec : {M : Type 1} → statement M
+find-spec =
+    tie.close
+    (tie.spec
+    Inv-loop
+    μ-loop
+    room-requires
+    returns
+    bucket-requires
+    link-at-requires
+    loop-holds
+    sub-at
+    counts-at-requires
+    returns-2
+    link-at-requires-2
+    loop-less
+    loop-again
+    returns-3)

@@ -1,0 +1,3 @@
+-- Classes of outlines in the arena.
+pub mod Orders
+pub mod Directory

@@ -1,0 +1,2 @@
+-- What a class holds while it grows.
+pub mod Growing

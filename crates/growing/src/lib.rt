@@ -1,0 +1,74 @@
+// A class of outlines that grows at the arena's end: builds with the same counts come behind its first record, each once.
+// Whoever lists outlines class by class calls this crate. An outline of the class can only stand in the class, so that nothing else is searched.
+use arena::How;
+use arena::Record;
+use outline::Outline;
+use outline::Way;
+use outlines::Listed;
+use shapes::Job;
+ghost use Rattle.outline.specs.Stands.{outlineOf, wayOf};
+ghost use Rattle.outlines.specs.Listing.{Told, Holds};
+ghost use Rattle.growing.specs.Growing.{Absent, Growable, GrowsIn, Pairable, PairsIn};
+
+// The outline is one of the first n records', of which none before `start` has its counts.
+fn holds_from(arena: &[u8], start: usize, n: usize, o: Outline, types: usize) -> bool
+    requires { ⌜ Absent types (now arena) start n o ⌝ }
+    ensures { λ r. ⌜ Told (Holds types (now (arena .entry)) n (outlineOf types o)) r ⌝ }
+{
+    let mut i = start;
+    while i < n {
+        let at = i;
+        i += 1;
+        if arena::same_at(arena, at, o, types) {
+            return true;
+        }
+    }
+    false
+}
+
+// Adds a build to the class from `start` on, unless it is there.
+pub fn add(job: Job, arena: &mut [u8], start: usize, n: usize, build: Record) -> Listed
+    requires { ⌜ Growable job (now arena) start n build ⌝ }
+    ensures { λ r. ⌜ GrowsIn job start build (now (arena .entry)) n (now (arena .exit)) r ⌝ }
+{
+    let types = job.count as usize;
+    if holds_from(arena, start, n, build.outline, types) {
+        return Listed::Complete(n);
+    }
+    if n == arena::room(arena.len()) {
+        return Listed::Full;
+    }
+    classes::append(arena, start, n, build);
+    Listed::Complete(n + 1)
+}
+
+// Adds the join of records i and q, whose counts add up to the class's, if it fits.
+pub fn add_join(
+    job: Job,
+    arena: &mut [u8],
+    start: usize,
+    n: usize,
+    i: usize,
+    q: usize,
+    way: Way,
+) -> Listed
+    requires { ⌜ Pairable job (now arena) start n i q ⌝ }
+    ensures { λ r. ⌜ PairsIn job start (wayOf way) i q (now (arena .entry)) n (now (arena .exit)) r ⌝ }
+{
+    let a = arena::load(arena, i);
+    let b = arena::load(arena, q);
+    let o = a.outline.joined(b.outline, way);
+    if o.fits(job) {
+        return add(
+            job,
+            arena,
+            start,
+            n,
+            Record {
+                outline: o,
+                how: How::Joined(way, i, q),
+            },
+        );
+    }
+    Listed::Complete(n)
+}

@@ -16,7 +16,7 @@ use Rattle.rules.proofs.Outlines.{sameList}
 use Rattle.rules.specs.Planner.{roomOf}
 use Rattle.arena.specs.declared.Record.{Record}
 use Rattle.arena.specs.Records.{recordAt, sizeOf, linkAt, linksMost, Stored, StoredAlone, Linked}
-use Rattle.classes.specs.Directory.{weighed, Weighed, bucketOf, chainLink, headLink, endLink, countsAt, Reach, here, next, Class, Chain, none, some, Directory, Enterable, Entered, Appendable, Kept, Appended}
+use Rattle.classes.specs.Directory.{weightMost, weigh, weighed, bucketOf, chainLink, headLink, endLink, countsAt, Reach, here, next, Class, Chain, none, some, Directory, Begins, Enterable, Entered, Appendable, Kept, Appended}
 use Rattle.classes.specs.Orders.{Ordered, sizeIn, namedIn, InOrderOf, Orderable, Inserted}
 
 -- f with n put at place k, what stood there and behind it moved one place on, is g
@@ -171,32 +171,30 @@ module _ {start n w v : ℕ} {before s : List ℕ} {k : ℕ} (h : Shifting start
       go q (yes p) = omega (arith, ap (λ u. sizeIn before w (namedIn before w u)) p)
       go q (no p) = omega (arith, h .asked .ordered .rising i b x (omega arith) (omega (arith, h .high)))
 
--- weighing counts
-pub record Weighing (types : ℕ) (c : List ℕ) (sum weight i : ℕ) : Type 0 where
+-- weighing counts: what is left gives the same number
+pub record Weighing (types : ℕ) (c : List ℕ) (sum i : ℕ) : Type 0 where
   pub upto : i ≤ types
-  pub total : sum + weighed weight (drop i (take types c)) ≡ weighed 1 (take types c)
-  pub light : weight ≤ 1_048_572
-  pub small : sum ≤ i * (255 * 1_048_572)
+  pub total : weighed sum (drop i (take types c)) ≡ weighed 0 (take types c)
+  pub small : sum < weightMost
 
-pub weighing-start : (types : ℕ) (c : List ℕ) → Weighing types c 0 1 0
-weighing-start types c = record { upto = omega arith; total = omega arith; light = omega arith; small = omega arith }
+pub weighing-start : (types : ℕ) (c : List ℕ) → Weighing types c 0 0
+weighing-start types c = record { upto = omega arith; total = refl; small = omega arith }
 
-pub weighing-more : (types : ℕ) (c : List ℕ) (sum weight i x : ℕ) → Weighing types c sum weight i → i < types → types ≤ length c → Weighed (getD c i 0) weight x → Weighing types c (sum + x) (weight * 7_919 % 1_048_573) (i + 1)
+pub weighing-more : (types : ℕ) (c : List ℕ) (sum i x : ℕ) → Weighing types c sum i → i < types → types ≤ length c → x ≡ weigh sum (getD c i 0) → x < weightMost → Weighing types c x (i + 1)
 unfolding weighed
-weighing-more types c sum weight i x h l m y =
+weighing-more types c sum i x h l m e y =
     let k = take types c in
-    let e = drop-cons k i 0 (simp length-take (omega arith)) in
-    let g = getD-take types c i 0 l in
-    let d : weighed weight (drop i k) ≡ getD c i 0 * weight + weighed (weight * 7_919 % 1_048_573) (drop (i + 1) k) =
-    ap (weighed weight) (e ∙ (λ j. g j ∷ drop (sym (add-one i) j) k)) in
-    record { upto = omega arith; total = omega (arith, h .total, d, y .is); light = omega arith; small = omega (arith, h .small, y .small) }
+    let g = drop-cons k i 0 (simp length-take (omega arith)) in
+    let d = getD-take types c i 0 l in
+    let f : weighed sum (drop i k) ≡ weighed (weigh sum (getD c i 0)) (drop (i + 1) k) = ap (weighed sum) (g ∙ (λ j. d j ∷ drop (sym (add-one i) j) k)) in
+    record { upto = omega arith; total = ap (λ z. weighed z (drop (i + 1) k)) e ∙ sym f ∙ h .total; small = y }
 
-pub weighing-end : (types : ℕ) (c : List ℕ) (sum weight i : ℕ) → Weighing types c sum weight i → types ≤ i → sum ≡ weighed 1 (take types c)
+pub weighing-end : (types : ℕ) (c : List ℕ) (sum i : ℕ) → Weighing types c sum i → types ≤ i → sum ≡ weighed 0 (take types c)
 unfolding weighed
-weighing-end types c sum weight i h l =
+weighing-end types c sum i h l =
     let z : length (take types c) ≤ i = simp length-take (omega arith) in
     let e : drop i (take types c) ≡ [] = drop-of-length-le (take types c) z in
-    omega (arith, h .total, ap (weighed weight) e)
+    sym (ap (weighed sum) e) ∙ h .total
 
 -- looking for counts
 same-list : (a : List ℕ) → sameList a a ≡ true
@@ -328,9 +326,14 @@ module _ {types : ℕ} {s t : List ℕ} {start n h : ℕ} {c : List ℕ} (a : En
         some = omega arith;
         ends = omega (arith, a .some);
         same = λ q x y. same-counts q ∙ k .same q x (omega arith) ∙ sym (same-counts p);
+        whole = λ q x y. old-only q x (sym (same-counts q) ∙ y ∙ same-counts p) (decLt q start);
         orders = λ v l. subst (InOrderOf t v p) (sym e) (same-order v p (linkAt s p endLink) l (k .orders v l));
         chained = rw (w .same-length, same-counts p) (from-head (bucketOf (roomOf (length s)) (countsAt types s p)) p (bucket-room (countsAt types s p)) (k .chained));
       }
+    where
+      old-only : (q : ℕ) → q < n → countsAt types s q ≡ countsAt types s p → Dec (q < start) → (p ≤ q) × (q < linkAt t p endLink)
+      old-only q x y (yes z) = let r = k .whole q z y in (r .0, omega (arith, r .1, w .ends p (inside p k)))
+      old-only q x y (no z) = absurd (a .before p (inside p k) (sym y ∙ a .counts q (omega arith) x))
 
   chain-stays : {x : ℕ} → Chain types s start x → Chain types t n x
   chain-stays (none z) = none z
@@ -346,9 +349,14 @@ module _ {types : ℕ} {s t : List ℕ} {start n h : ℕ} {c : List ℕ} (a : En
         some = omega arith;
         ends = omega arith;
         same = λ q x y. same-counts q ∙ a .counts q x (omega arith) ∙ sym (a .counts start (omega arith) more) ∙ sym (same-counts start);
+        whole = λ q x y. new-only q x (sym (same-counts q) ∙ y ∙ same-counts start) (decLt q start);
         orders = λ v l. subst (InOrderOf t v start) (sym e) (same-order v start n l (a .orders v l));
         chained = rw (w .same-length, same-counts start, a .counts start (omega arith) more, sym eh) (here (w .head));
       }
+    where
+      new-only : (q : ℕ) → q < n → countsAt types s q ≡ countsAt types s start → Dec (q < start) → (start ≤ q) × (q < linkAt t start endLink)
+      new-only q x y (yes z) = absurd (a .before q z (y ∙ a .counts start (omega arith) (a .some)))
+      new-only q x y (no z) = (omega arith, omega (arith, w .ended))
 
   chain-low : {x : ℕ} → Chain types s start x → x ≤ start
   chain-low (none z) = omega arith
@@ -456,6 +464,7 @@ module _ {types : ℕ} {s t : List ℕ} {start n : ℕ} (d : Directory types s s
         some = omega arith;
         ends = omega arith;
         same = λ q x y. counts-stay q (omega arith) ∙ k .same q x (omega arith) ∙ sym (counts-stay p i);
+        whole = λ q x y. let r = k .whole q x (sym (counts-stay q x) ∙ y ∙ counts-stay p i) in (r .0, omega (arith, r .1));
         orders = λ v l. subst (InOrderOf t v p) (sym e) (ordered-stays (λ j h. ap (λ u. sizeOf v (u .outline)) (a .records j (omega arith))) (λ j x y. a .links j v (omega arith) (omega arith)) (k .orders v l));
         chained = rw (a .same-length, counts-stay p i, a .heads b) (reach-kept (d .heads b (bucket-in (omega arith) (countsAt types s p))) (k .chained));
       }
@@ -472,6 +481,33 @@ module _ {types : ℕ} {s t : List ℕ} {start n : ℕ} (d : Directory types s s
     heads = λ h l. subst (Chain types t start) (sym (a .heads h)) (chain-kept (d .heads h (omega (arith, ap roomOf (a .same-length)))));
     each = λ q l. let r = d .each q l in (r .0, class-kept (r .0) (r .1), r .2, omega (arith, r .3, a .links (r .0) endLink (in-front (r .0) (r .1)) (omega arith)));
   }
+
+-- a class begins where no record before has the counts
+pub class-at : {types : ℕ} {s : List ℕ} {n p : ℕ} → Directory types s n → p < n → Begins types s p → Class types s n p
+class-at {types} {s} {n} {p} d h b = let r = d .each p h in go (r .0) (r .1) (r .2) (r .3) (ℕ-discrete (r .0) p)
+  where
+    go : (q : ℕ) → Class types s n q → q ≤ p → p < linkAt s q endLink → Dec (q ≡ p) → Class types s n p
+    go q k x y (yes e) = subst (Class types s n) e k
+    go q k x y (no e) = absurd (b q (omega arith) (sym (k .same p x y)))
+
+pub class-begins : {types : ℕ} {s : List ℕ} {n p : ℕ} → Class types s n p → Begins types s p
+class-begins k q h e = let r = k .whole q (omega (arith, k .some, k .ends)) e in omega (arith, r .0)
+
+-- where a class ends, the next begins
+pub next-begins : {types : ℕ} {s : List ℕ} {n p : ℕ} → Directory types s n → Class types s n p → linkAt s p endLink < n → Begins types s (linkAt s p endLink)
+next-begins {types} {s} {n} {p} d k h q l e = go (decLt q p)
+  where
+    never : countsAt types s (linkAt s p endLink) ≡ countsAt types s p → ⊥
+    never y = let r = k .whole (linkAt s p endLink) h y in omega (arith, r .1)
+
+    go : Dec (q < p) → ⊥
+    go (yes x) =
+        let c = d .each q (omega (arith, k .ends)) in
+        let f = c .1 .same q (c .2) (c .3) in
+        let z = c .1 .whole (linkAt s p endLink) h (sym e ∙ f) in
+        let ks = k .some in
+        never (sym e ∙ f ∙ sym (c .1 .same p (omega (arith, c .2)) (omega (arith, z .1))))
+    go (no x) = never (sym e ∙ k .same q (omega arith) l)
 
 pub appended-stored : {start n : ℕ} {r : Record} {s t : List ℕ} → Appended start n r s t → Stored n r s t
 appended-stored a = record { same-length = a .kept .same-length; here = a .here; others = a .kept .records }

@@ -10,19 +10,22 @@ use Rattle.classes.specs.declared.Found.{Found}
 use Rattle.classes.specs.declared.Found.the-variants.{At, Nowhere}
 use Rattle.classes.specs.Orders.{InOrderOf}
 
--- counts weighed, from a first weight on
+-- what a bucket's number is made of stays below
+abbrev pub weightMost : ℕ
+weightMost = 4_294_967_296
+
+-- one count more
+abbrev pub weigh : ℕ → ℕ → ℕ
+weigh w c = (w * 31 + c) % weightMost
+
+-- counts weighed one after the other
 unfoldable pub weighed : ℕ → List ℕ → ℕ
-weighed w [] = 0
-weighed w (c ∷ cs) = c * w + weighed (w * 7_919 % 1_048_573) cs
+weighed w [] = w
+weighed w (c ∷ cs) = weighed (weigh w c) cs
 
 -- the bucket of counts, out of so many
 unfoldable pub bucketOf : ℕ → List ℕ → ℕ
-bucketOf buckets c = weighed 1 c % buckets
-
--- so many pieces of a type, weighed
-pub record Weighed (count weight r : ℕ) : Type 0 where
-  pub is : r ≡ count * weight
-  pub small : r ≤ 255 * 1_048_572
+bucketOf buckets c = weighed 0 c % buckets
 
 -- which link is which
 abbrev pub endLink : ℕ
@@ -43,11 +46,12 @@ pub data Reach (s : List ℕ) : ℕ → ℕ → Type 0 where
   here : {x p : ℕ} → x ≡ suc p → Reach s x p
   next : {x q p : ℕ} → x ≡ suc q → Reach s (linkAt s q chainLink) p → Reach s x p
 
--- a class whose first record is p, among the first n records
+-- a class whose first record is p: all of the first n records with its counts
 pub record Class (types : ℕ) (s : List ℕ) (n p : ℕ) : Type 0 where
   pub some : p < linkAt s p endLink
   pub ends : linkAt s p endLink ≤ n
   pub same : (q : ℕ) → p ≤ q → q < linkAt s p endLink → countsAt types s q ≡ countsAt types s p
+  pub whole : (q : ℕ) → q < n → countsAt types s q ≡ countsAt types s p → (p ≤ q) × (q < linkAt s p endLink)
   pub orders : (w : ℕ) → w < 2 → InOrderOf s w p (linkAt s p endLink)
   pub chained : Reach s (linkAt s (bucketOf (roomOf (length s)) (countsAt types s p)) headLink) p
 
@@ -62,6 +66,10 @@ pub record Directory (types : ℕ) (s : List ℕ) (n : ℕ) : Type 0 where
   pub heads : (h : ℕ) → h < roomOf (length s) → Chain types s n (linkAt s h headLink)
   pub each : (q : ℕ) → q < n → (p : ℕ) × Class types s n p × (p ≤ q) × (q < linkAt s p endLink)
 
+-- no record before p has its counts: a class begins there
+abbrev pub Begins : ℕ → List ℕ → ℕ → Type 0
+Begins types s p = (q : ℕ) → q < p → countsAt types s q ≡ countsAt types s p → ⊥
+
 -- the class with these counts, or that no record has them
 abbrev pub FoundIn : (types : ℕ) (s : List ℕ) (n : ℕ) (c : List ℕ) → Found → Type 0
 FoundIn types s n c (At p) = Class types s n p × (countsAt types s p ≡ c)
@@ -72,6 +80,7 @@ pub record Enterable (types : ℕ) (s : List ℕ) (start n : ℕ) (c : List ℕ)
   pub directory : Directory types s start
   pub room : n ≤ roomOf (length s)
   pub some : start < n
+  pub before : (q : ℕ) → q < start → countsAt types s q ≡ c → ⊥
   pub counts : (q : ℕ) → start ≤ q → q < n → countsAt types s q ≡ c
   pub orders : (w : ℕ) → w < 2 → InOrderOf s w start n
 

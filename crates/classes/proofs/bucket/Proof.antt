@@ -12,10 +12,10 @@ use Rattle.classes.proofs.bucket.Statement.{statement}
 use Rattle.classes.proofs.bucket.Tie as tie
 
 abbrev Inv-loop : tie.InvT-loop
-Inv-loop types buckets counts sum₀ weight₀ i₀ sum weight i = Weighing types counts sum weight i
+Inv-loop types buckets counts sum₀ i₀ sum i = Weighing types counts sum i
 
 abbrev μ-loop : tie.MeasureT-loop
-μ-loop types buckets counts sum₀ weight₀ i₀ sum weight i = types - i
+μ-loop types buckets counts sum₀ i₀ sum i = types - i
 
 loop-holds : tie.Need-loop-holds Inv-loop μ-loop
 loop-holds c = weighing-start _ _
@@ -25,12 +25,6 @@ array-read-weigh c = search needs
 
 weigh-requires : tie.Need-weigh-requires Inv-loop μ-loop
 weigh-requires c κs = search needs
-
-add-sum : tie.Need-add-sum Inv-loop μ-loop
-add-sum c = search needs
-
-mul-weight : tie.Need-mul-weight Inv-loop μ-loop
-mul-weight c = search needs
 
 add-i : tie.Need-add-i Inv-loop μ-loop
 add-i c = search needs
@@ -45,7 +39,7 @@ loop-again : tie.Need-loop-again Inv-loop μ-loop
 loop-again c =
     let at = c .before .before in
     let st = at .before in
-    weighing-more (st .args .types) (st .args .t1) (at .loop .sum) (at .loop .weight) (at .loop .i) _ (at .loop .inv) (omega (arith, c .before .loop-test .taken)) (omega (arith, counts-len st, st .pre .0)) (c .weigh .ensures)
+    weighing-more (st .args .types) (st .args .t1) (at .loop .sum) (at .loop .i) _ (at .loop .inv) (omega (arith, c .before .loop-test .taken)) (omega (arith, counts-len st, st .pre .0)) (c .weigh .ensures .0) (c .weigh .ensures .1)
 
 rem-result : tie.Need-rem-result Inv-loop μ-loop
 rem-result c = search needs
@@ -55,7 +49,7 @@ unfolding bucketOf
 returns c =
     let at = c .before in
     let st = at .before in
-    (ap (λ k. k % (st .args .buckets)) (weighing-end (st .args .types) (st .args .t1) _ _ _ (at .loop .inv) (omega (arith, c .loop-test .left))), mod-lt _ (st .pre .1))
+    (ap (λ k. k % (st .args .buckets)) (weighing-end (st .args .types) (st .args .t1) _ _ (at .loop .inv) (omega (arith, c .loop-test .left))), mod-lt _ (st .pre .1))
 
 pub bucket-spec : {M : Type 1} → statement M
 bucket-spec =
@@ -66,8 +60,6 @@ bucket-spec =
     loop-holds
     array-read-weigh
     weigh-requires
-    add-sum
-    mul-weight
     add-i
     loop-less
     loop-again

@@ -1,21 +1,25 @@
 -- Builds class by class, a class being all builds with the same counts: a build less one piece of a type it has is a build,
 -- so that each class is reached from a class with one piece less of its last type; and when a class, and the whole list, is complete. Assumes nothing.
 use mathlib.Core.Path.{_≡_, refl, sym, ap, _∙_, subst}
+use mathlib.Core.Bool.{true}
 use mathlib.Core.Logic.{_⊎_, inl, inr}
 use mathlib.Core.List.{List, [], _∷_, map, List·Memᴰ}
 use Prim.Native.Nat.{ℕ, zero, suc, _+_, _*_, _≤_, _<_, max}
 use native.Mathlib.Omega.{arith}
 use native.Mathlib.Nat.{max-comm}
 use native.Mathlib.Decide.{decLe, decLt}
-use lib.ListN.{length, getD}
+use lib.ListN.{length, getD, set}
+use lib.Seq.{ext-getD}
+use borrow.Author.Tests.{le-leb}
 use Rattle.rules.specs.Bag.{sum, All}
 use Rattle.rules.specs.Box.{Way, along, across}
 use Rattle.rules.specs.Made.{one, beside, above}
 use Rattle.rules.specs.Job.{Job, Outline, Fits, Build, building, AtMost, plus, pieces, types, alone}
+use Rattle.rules.proofs.Bools.{both-and}
 use Rattle.rules.proofs.Bags.{all-at, from-map}
 use Rattle.rules.proofs.Tally.{Typed, length-plus, sum-plus, sum-unit}
 use Rattle.rules.proofs.Bridge.{join, join-counts, made-join}
-use Rattle.rules.proofs.Outlines.{counts-length}
+use Rattle.rules.proofs.Outlines.{atMost, counts-length}
 use Rattle.rules.proofs.Worklist.{index}
 
 -- one piece more of type t, counted from 0
@@ -54,6 +58,12 @@ length-more zero [] = refl
 length-more (suc t) [] = refl
 length-more zero (c ∷ cs) = refl
 length-more (suc t) (c ∷ cs) = ap suc (length-more t cs)
+
+pub more-set : (t : ℕ) (c : List ℕ) → oneMore t c ≡ set c t (suc (getD c t 0))
+more-set zero [] = refl
+more-set (suc t) [] = refl
+more-set zero (c ∷ cs) = refl
+more-set (suc t) (c ∷ cs) = λ i. c ∷ more-set t cs i
 
 at-most-less : (t : ℕ) (c d : List ℕ) → AtMost (oneMore t c) d → AtMost c d
 at-most-less t [] d h = tt
@@ -94,6 +104,15 @@ plus-comm [] [] = refl
 plus-comm [] (y ∷ b) = refl
 plus-comm (x ∷ a) [] = refl
 plus-comm (x ∷ a) (y ∷ b) = let e : x + y ≡ y + x = omega arith in λ i. e i ∷ plus-comm a b i
+
+-- counts of a part are at most those of the whole, and leave one rest
+pub at-most-plus : (a b : List ℕ) → length a ≡ length b → atMost a (plus a b) ≡ true
+at-most-plus [] b e = refl
+at-most-plus (x ∷ a) [] e = absurd (omega arith)
+at-most-plus (x ∷ a) (y ∷ b) e = both-and (le-leb x (x + y) (omega arith)) (at-most-plus a b (omega arith))
+
+pub plus-cancel : (a b c : List ℕ) → length a ≡ length b → length a ≡ length c → plus a b ≡ plus a c → b ≡ c
+plus-cancel a b c e f p = ext-getD 0 b c (sym e ∙ f) (λ k h. omega (arith, getD-plus k a b e, getD-plus k a c f, ap (λ l. getD l k 0) p))
 
 join-comm : (w : Way) (a b : Outline) → join w a b ≡ join w b a
 join-comm along a b = let e : a .long + b .long ≡ b .long + a .long = omega arith in λ i. record { long = e i; wide = max-comm (a .wide) (b .wide) i; counts = plus-comm (a .counts) (b .counts) i }
@@ -145,7 +164,7 @@ module _ {j : Job} (typed : All (λ p. Typed j (p .type)) (j .singles)) where
   same-types : {a b : Outline} → Build j a → Build j b → length (a .counts) ≡ length (b .counts)
   same-types p q = counts-length p ∙ sym (counts-length q)
 
-  single-pieces : {o : Outline} → List·Memᴰ o (map (alone j) (j .singles)) → pieces o ≡ 1
+  pub single-pieces : {o : Outline} → List·Memᴰ o (map (alone j) (j .singles)) → pieces o ≡ 1
   single-pieces {o} m =
       let t = from-map (alone j) (j .singles) m in
       let k = all-at typed (t .1) in

@@ -15,6 +15,7 @@ pub mod Order
 pub mod Lay
 pub mod Outlines
 pub mod Classes
+pub mod Least
 pub mod Planning
 pub mod Unfold
 pub mod Reorder

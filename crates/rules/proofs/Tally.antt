@@ -5,7 +5,7 @@ use mathlib.Core.List.{List, [], _∷_, _++_}
 use Prim.Native.Nat.{ℕ, zero, suc, _+_, _≤_, _<_}
 use native.Mathlib.Nat.{le-trans}
 use native.Mathlib.Omega.{arith}
-use lib.ListN.{length}
+use lib.ListN.{length, getD, take}
 use lib.Dec.{eqb, eqb·suc-zero, eqb·suc-suc}
 use borrow.Author.Tests.{ne-eqb}
 use Rattle.rules.specs.Bag.{tick, sum, keep, count, other, All, nil, cons, Same}
@@ -116,6 +116,13 @@ pub sum-at-most : (c d : List ℕ) → AtMost c d → sum c ≤ sum d
 sum-at-most [] d h = omega arith
 sum-at-most (c ∷ cs) [] h = absurd h
 sum-at-most (c ∷ cs) (d ∷ ds) h = omega (arith, h .0, sum-at-most cs ds (h .1))
+
+-- counts are added up one after the other
+pub sum-next : (i : ℕ) (c : List ℕ) → sum (take (suc i) c) ≡ sum (take i c) + getD c i 0
+sum-next zero [] = refl
+sum-next (suc i) [] = refl
+sum-next zero (c ∷ cs) = omega arith
+sum-next (suc i) (c ∷ cs) = omega (arith, sum-next i cs)
 
 -- a type of the job
 pub record Typed (j : Job) (t : ℕ) : Type 0 where

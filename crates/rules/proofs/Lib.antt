@@ -16,6 +16,7 @@ pub mod Lay
 pub mod Outlines
 pub mod Classes
 pub mod Least
+pub mod Halves
 pub mod Planning
 pub mod Unfold
 pub mod Reorder

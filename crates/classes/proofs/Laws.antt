@@ -534,3 +534,18 @@ row-stops {size} {f} {start} {n} o k x most a h p b c = go (ℕ-discrete p k)
 -- what holds of all that an order names holds of all
 pub row-whole : {size f : ℕ → ℕ} {start n : ℕ} → Ordered size f start n → (P : ℕ → Type 0) → ((k : ℕ) → start ≤ k → k < n → P (f k)) → (q : ℕ) → start ≤ q → q < n → P q
 row-whole o P h q a b = let r = o .each q a b in subst P (r .3) (h (r .0) (r .1) (r .2))
+
+-- the first that an order names is the smallest, the last the largest
+pub first-least : {size f : ℕ → ℕ} {start n : ℕ} → Ordered size f start n → (q : ℕ) → start ≤ q → q < n → size (f start) ≤ size q
+first-least {size} {f} {start} {n} o q a b = let r = o .each q a b in go (r .0) (r .1) (r .2) (r .3) (ℕ-discrete (r .0) start)
+  where
+    go : (k : ℕ) → start ≤ k → k < n → f k ≡ q → Dec (k ≡ start) → size (f start) ≤ size q
+    go k x y e (yes z) = omega (arith, ap (λ i. size (f i)) z, ap size e)
+    go k x y e (no z) = omega (arith, o .rising start k (omega arith) (omega arith) y, ap size e)
+
+pub last-most : {size f : ℕ → ℕ} {start n : ℕ} → Ordered size f start n → (last : ℕ) → suc last ≡ n → (q : ℕ) → start ≤ q → q < n → size q ≤ size (f last)
+last-most {size} {f} {start} {n} o last h q a b = let r = o .each q a b in go (r .0) (r .1) (r .2) (r .3) (ℕ-discrete (r .0) last)
+  where
+    go : (k : ℕ) → start ≤ k → k < n → f k ≡ q → Dec (k ≡ last) → size q ≤ size (f last)
+    go k x y e (yes z) = omega (arith, ap (λ i. size (f i)) z, ap size e)
+    go k x y e (no z) = omega (arith, o .rising k last x (omega arith) (omega arith), ap size e)

@@ -1,0 +1,2 @@
+-- What the arena holds while classes are listed.
+pub mod Queue

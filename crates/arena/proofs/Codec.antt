@@ -4,13 +4,16 @@ use mathlib.Core.Bool.{true, false}
 use mathlib.Core.List.{List, [], _∷_, _++_, append-nil}
 use Prim.Native.Nat.{ℕ, zero, suc, _+_, _*_, _-_, _/_, _%_, _≤_, _<_}
 use native.Mathlib.Omega.{arith}
+use native.Mathlib.Numerals.{add-one}
 use lib.Dec.{eqb}
 use lib.ListN.{length, getD, set, take, drop, replicate, length-set, length-take, length-drop, length-append, drop-of-length-le}
-use lib.Seq.{take-at, drop-at, getD-append-add}
+use lib.Seq.{take-at, drop-at, getD-take, getD-append-add, take-set-lt}
 use borrow.Author.Tests.{eq-eqb, ne-eqb}
 use Rattle.rules.specs.Limits.{typesMost, recordBytes}
+use Rattle.rules.specs.Job.{plus}
 use Rattle.rules.proofs.Bools.{and-false-left, and-false-right, both-and}
 use Rattle.rules.proofs.Outlines.{sameList}
+use Rattle.rules.proofs.Classes.{oneMore, more-set}
 use Rattle.outline.specs.declared.Way.the-variants.{Beside, Above}
 use Rattle.arena.specs.declared.How.{How}
 use Rattle.arena.specs.declared.How.the-variants.{Piece, Joined}
@@ -128,6 +131,18 @@ same-all zero a b l m p = refl
 same-all (suc n) [] b l m p = absurd (omega arith)
 same-all (suc n) (x ∷ a) [] l m p = absurd (omega arith)
 same-all (suc n) (x ∷ a) (y ∷ b) l m p = both-and (eq-eqb x y (p 0 (omega arith))) (same-all n a b (omega arith) (omega arith) (λ i h. p (suc i) (omega arith)))
+
+-- counts that are added up place by place
+pub plus-all : (n : ℕ) (a b c : List ℕ) → n ≤ length a → n ≤ length b → n ≤ length c → ((i : ℕ) → i < n → getD a i 0 + getD b i 0 ≡ getD c i 0) → plus (take n a) (take n b) ≡ take n c
+plus-all zero a b c l m k p = refl
+plus-all (suc n) [] b c l m k p = absurd (omega arith)
+plus-all (suc n) (x ∷ a) [] c l m k p = absurd (omega arith)
+plus-all (suc n) (x ∷ a) (y ∷ b) [] l m k p = absurd (omega arith)
+plus-all (suc n) (x ∷ a) (y ∷ b) (z ∷ c) l m k p = λ j. p 0 (omega arith) j ∷ plus-all n a b c (omega arith) (omega arith) (omega arith) (λ i h. p (suc i) (omega arith)) j
+
+-- one piece more among the first n types
+pub more-of : (n t : ℕ) (c : List ℕ) → t < n → take n (set c t (getD c t 0 + 1)) ≡ oneMore t (take n c)
+more-of n t c h = take-set-lt n c t (getD c t 0 + 1) h ∙ ap (set (take n c) t) (add-one (getD c t 0) ∙ ap suc (sym (getD-take n c t 0 h))) ∙ sym (more-set t (take n c))
 
 -- what stands behind the counts is written behind them
 pub put-behind : (c d b : List ℕ) → length c ≡ typesMost → length d ≡ 20 → take typesMost (c ++ d) ++ (b ++ drop (length (c ++ d) - typesMost) (drop typesMost (c ++ d))) ≡ c ++ b

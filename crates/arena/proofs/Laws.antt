@@ -84,6 +84,16 @@ chunk-at : (s : List ℕ) (j k : ℕ) → k < recordBytes → getD (chunk s j) k
 unfolding chunk
 chunk-at s j k h = getD-take recordBytes (drop (j * recordBytes) s) k 0 h ∙ getD-drop (j * recordBytes) s k 0
 
+-- a count of a record is a byte of the arena
+pub count-at : (s : List ℕ) (i t : ℕ) → t < typesMost → getD s (i * recordBytes + t) 0 ≡ getD (recordAt s i .outline .counts) t 0
+unfolding decode
+count-at s i t h = sym (getD-take typesMost (chunk s i) t 0 h ∙ chunk-at s i t (omega arith))
+
+-- the counts of a record, read in its part of the arena
+pub counts-in : (s : List ℕ) (i : ℕ) → take typesMost (take (i * recordBytes + recordBytes - i * recordBytes) (drop (i * recordBytes) s)) ≡ recordAt s i .outline .counts
+unfolding chunk decode
+counts-in s i = let e : i * recordBytes + recordBytes - i * recordBytes ≡ recordBytes = omega arith in rw e
+
 -- a word of a record is a word of the arena
 word-chunk : (s : List ℕ) (i at m : ℕ) → at + 1 < recordBytes → m ≡ i * recordBytes + at → word s m ≡ word (chunk s i) at
 unfolding word

@@ -3,7 +3,7 @@ use mathlib.Core.Path.{_≡_}
 use mathlib.Core.List.{List, [], _∷_, _++_}
 use Prim.Native.Nat.{ℕ, zero, suc, _+_, _*_, _<_}
 use lib.ListN.{length}
-use Rattle.rules.specs.Limits.{recordBytes}
+use Rattle.rules.specs.Limits.{typesMost, recordBytes}
 use Rattle.rules.specs.Planner.{roomOf}
 use Rattle.rules.proofs.Unfold.{Maker, piece, joined, Rec}
 use Rattle.outline.specs.declared.Outline.{Outline}
@@ -20,6 +20,13 @@ recordAt s i = decode (chunk s i)
 abbrev pub sizeOf : ℕ → Outline → ℕ
 sizeOf zero o = o .length .0
 sizeOf (suc w) o = o .width .0
+
+-- the most that a count can be, and that the counts of a record can add up to
+abbrev pub byteMost : ℕ
+byteMost = 255
+
+abbrev pub countsMost : ℕ
+countsMost = typesMost * byteMost
 
 -- what a record stands for in a job of n types
 abbrev pub makerOf : Outline → How → Maker

@@ -10,14 +10,18 @@ use shapes::RECORD_BYTES;
 use shapes::RECORDS_MOST;
 use shapes::TYPES_MOST;
 ghost use mathlib.Core.Path.{_≡_};
+ghost use mathlib.Core.Bool.{true};
 ghost use Prim.Native.Nat.{_+_, _*_, _≤_, _<_, _-_};
-ghost use lib.ListN.{length, take, replicate};
+ghost use lib.ListN.{length, getD, take, replicate};
 ghost use Rattle.rules.specs.Limits.{recordBytes, typesMost};
+ghost use Rattle.rules.specs.Bag.{sum};
+ghost use Rattle.rules.specs.Job.{plus};
 ghost use Rattle.rules.specs.Planner.{roomOf};
-ghost use Rattle.rules.proofs.Outlines.{sameList, sameOutline};
+ghost use Rattle.rules.proofs.Outlines.{sameList, sameOutline, atMost};
+ghost use Rattle.rules.proofs.Classes.{oneMore};
 ghost use Rattle.outline.specs.Stands.{outlineOf, twoBytes};
 ghost use Rattle.arena.specs.Bytes.{word, putWord, behind, linkOf, howOf, encode, decode};
-ghost use Rattle.arena.specs.Records.{recordAt, sizeOf, linkAt, linksMost, Storable, StoredAlone, Loaded, Linkable, Linked};
+ghost use Rattle.arena.specs.Records.{recordAt, sizeOf, byteMost, countsMost, linkAt, linksMost, Storable, StoredAlone, Loaded, Linkable, Linked};
 
 // A piece of a type, numbered from 1, or a join of two records that stand before.
 pub enum How {
@@ -297,4 +301,98 @@ pub fn counts_at(arena: &[u8], i: usize, counts: [u8; TYPES_MOST], types: usize)
     let at = i * RECORD_BYTES;
     let end = at + RECORD_BYTES;
     same_counts(&arena[at..end], counts, types)
+}
+
+// The count of type t, counted from 0, in record i.
+pub fn count_at(arena: &[u8], i: usize, t: usize) -> u8
+    requires { ⌜ (i < roomOf (length (now arena))) × (t < typesMost) ⌝ }
+    ensures { λ r. ⌜ r ≡ getD (recordAt (now (arena .entry)) i .outline .counts) t 0 ⌝ }
+{
+    arena[i * RECORD_BYTES + t]
+}
+
+// The first n counts of a record are at most these.
+fn within(s: &[u8], counts: [u8; TYPES_MOST], n: usize) -> bool
+    requires { ⌜ (length (now s) ≡ recordBytes) × (n ≤ typesMost) ⌝ }
+    ensures { λ r. ⌜ r ≡ atMost (take n (take typesMost (now (s .entry)))) (take n counts) ⌝ }
+{
+    let mut i = 0;
+    while i < n {
+        let at = i;
+        i += 1;
+        if counts[at] < s[at] {
+            return false;
+        }
+    }
+    true
+}
+
+// Record i has no more of any type than these counts, for a job of so many types.
+pub fn within_at(arena: &[u8], i: usize, counts: [u8; TYPES_MOST], types: usize) -> bool
+    requires { ⌜ (i < roomOf (length (now arena))) × (types ≤ typesMost) ⌝ }
+    ensures { λ r. ⌜ r ≡ atMost (take types (recordAt (now (arena .entry)) i .outline .counts)) (take types counts) ⌝ }
+{
+    let at = i * RECORD_BYTES;
+    let end = at + RECORD_BYTES;
+    within(&arena[at..end], counts, types)
+}
+
+// These counts less the first n of a record.
+fn rest(s: &[u8], counts: [u8; TYPES_MOST], n: usize) -> [u8; TYPES_MOST]
+    requires { ⌜ (length (now s) ≡ recordBytes) × (n ≤ typesMost) × (atMost (take n (take typesMost (now s))) (take n counts) ≡ true) ⌝ }
+    ensures { λ r. ⌜ plus (take n (take typesMost (now (s .entry)))) (take n r) ≡ take n counts ⌝ }
+{
+    let mut r = counts;
+    let mut i = 0;
+    while i < n {
+        r[i] = counts[i] - s[i];
+        i += 1;
+    }
+    r
+}
+
+// What is left of these counts when those of record i are taken away, for a job of so many types.
+pub fn rest_at(arena: &[u8], i: usize, counts: [u8; TYPES_MOST], types: usize) -> [u8; TYPES_MOST]
+    requires { ⌜ (i < roomOf (length (now arena))) × (types ≤ typesMost) × (atMost (take types (recordAt (now arena) i .outline .counts)) (take types counts) ≡ true) ⌝ }
+    ensures { λ r. ⌜ plus (take types (recordAt (now (arena .entry)) i .outline .counts)) (take types r) ≡ take types counts ⌝ }
+{
+    let at = i * RECORD_BYTES;
+    let end = at + RECORD_BYTES;
+    rest(&arena[at..end], counts, types)
+}
+
+// The first n counts of a record, added up.
+fn pieces(s: &[u8], n: usize) -> usize
+    requires { ⌜ (length (now s) ≡ recordBytes) × (n ≤ typesMost) ⌝ }
+    ensures { λ r. ⌜ (r ≡ sum (take n (take typesMost (now (s .entry))))) × (r ≤ countsMost) ⌝ }
+{
+    let mut r = 0;
+    let mut i = 0;
+    while i < n {
+        r += wide(s[i]) as usize;
+        i += 1;
+    }
+    r
+}
+
+// The number of pieces of record i, for a job of so many types.
+pub fn pieces_at(arena: &[u8], i: usize, types: usize) -> usize
+    requires { ⌜ (i < roomOf (length (now arena))) × (types ≤ typesMost) ⌝ }
+    ensures { λ r. ⌜ (r ≡ sum (take types (recordAt (now (arena .entry)) i .outline .counts))) × (r ≤ countsMost) ⌝ }
+{
+    let at = i * RECORD_BYTES;
+    let end = at + RECORD_BYTES;
+    pieces(&arena[at..end], types)
+}
+
+// The counts of record i with one piece more of type t, counted from 0, for a job of so many types.
+pub fn more_at(arena: &[u8], i: usize, t: usize, types: usize) -> [u8; TYPES_MOST]
+    requires { ⌜ (i < roomOf (length (now arena))) × (types ≤ typesMost) × (t < types) × (getD (recordAt (now arena) i .outline .counts) t 0 < byteMost) ⌝ }
+    ensures { λ r. ⌜ take types r ≡ oneMore t (take types (recordAt (now (arena .entry)) i .outline .counts)) ⌝ }
+{
+    let at = i * RECORD_BYTES;
+    let end = at + RECORD_BYTES;
+    let mut r = counts_of(&arena[at..end]);
+    r[t] += 1;
+    r
 }

@@ -1,10 +1,10 @@
 -- Laws of counts, of a job's types, and of one piece's counts. Assumes nothing.
 use mathlib.Core.Path.{_≡_, refl, sym, ap, _∙_, subst}
-use mathlib.Core.Bool.{true, false}
+use mathlib.Core.Bool.{true, false, true≢false}
 use mathlib.Core.List.{List, [], _∷_, map}
 use Prim.Native.Nat.{ℕ, zero, suc, _+_, _%_, _≤_, _<_}
 use native.Mathlib.Omega.{arith}
-use native.Mathlib.Decide.{ℕ-discrete}
+use native.Mathlib.Decide.{ℕ-discrete, decLe}
 use lib.Dec.{eqb, leb}
 use lib.ListN.{length, getD, take, set, replicate, length-set, length-map, length-replicate, getD-replicate, List·getD-map}
 use lib.Seq.{ext-getD, getD-take, getD-set-same, getD-set-other, length-take-le}
@@ -65,6 +65,13 @@ at-most-all zero c ds h p = refl
 at-most-all (suc n) [] ds h p = refl
 at-most-all (suc n) (c ∷ cs) [] h p = absurd (omega arith)
 at-most-all (suc n) (c ∷ cs) (d ∷ ds) h p = both-and (le-leb c d (p 0 (omega arith))) (at-most-all n cs ds (omega arith) (λ i k. p (suc i) (omega arith)))
+
+pub at-most-at : (n : ℕ) (c ds : List ℕ) (i : ℕ) → i < n → i < length c → atMost (take n c) ds ≡ true → getD c i 0 ≤ getD ds i 0
+at-most-at n c ds i h l e = go (decLe (getD c i 0) (getD ds i 0))
+  where
+    go : Dec (getD c i 0 ≤ getD ds i 0) → getD c i 0 ≤ getD ds i 0
+    go (yes p) = p
+    go (no p) = absurd (true≢false (sym e ∙ at-most-here n c ds i h l (omega arith)))
 
 getD-table : (n : ℕ) (f : ℕ → ℕ) (i : ℕ) → i < n → getD (table n f) i 0 ≡ f (suc i)
 getD-table zero f i h = absurd (omega arith)

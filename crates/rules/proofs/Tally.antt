@@ -5,6 +5,7 @@ use mathlib.Core.List.{List, [], _∷_, _++_}
 use Prim.Native.Nat.{ℕ, zero, suc, _+_, _≤_, _<_}
 use native.Mathlib.Nat.{le-trans}
 use native.Mathlib.Omega.{arith}
+use native.Mathlib.Numerals.{add-one}
 use lib.ListN.{length, getD, take}
 use lib.Dec.{eqb, eqb·suc-zero, eqb·suc-suc}
 use borrow.Author.Tests.{ne-eqb}
@@ -118,11 +119,14 @@ sum-at-most (c ∷ cs) [] h = absurd h
 sum-at-most (c ∷ cs) (d ∷ ds) h = omega (arith, h .0, sum-at-most cs ds (h .1))
 
 -- counts are added up one after the other
-pub sum-next : (i : ℕ) (c : List ℕ) → sum (take (suc i) c) ≡ sum (take i c) + getD c i 0
-sum-next zero [] = refl
-sum-next (suc i) [] = refl
-sum-next zero (c ∷ cs) = omega arith
-sum-next (suc i) (c ∷ cs) = omega (arith, sum-next i cs)
+sum-suc : (i : ℕ) (c : List ℕ) → sum (take (suc i) c) ≡ sum (take i c) + getD c i 0
+sum-suc zero [] = refl
+sum-suc (suc i) [] = refl
+sum-suc zero (c ∷ cs) = omega arith
+sum-suc (suc i) (c ∷ cs) = omega (arith, sum-suc i cs)
+
+pub sum-next : (i : ℕ) (c : List ℕ) → sum (take (i + 1) c) ≡ sum (take i c) + getD c i 0
+sum-next i c = ap (λ n. sum (take n c)) (add-one i) ∙ sum-suc i c
 
 -- a type of the job
 pub record Typed (j : Job) (t : ℕ) : Type 0 where

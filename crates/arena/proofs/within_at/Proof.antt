@@ -1,0 +1,36 @@
+-- `arena::within_at` meets its contract. Assumes nothing.
+use mathlib.Core.Path.{ap, _∙_}
+use lib.ListN.{take}
+use Rattle.rules.proofs.Outlines.{atMost}
+use Rattle.arena.proofs.Laws.{counts-in}
+use borrow.Author.Needs.{needs}
+use Rattle.arena.proofs.within_at.Statement.{statement}
+use Rattle.arena.proofs.within_at.Tie as tie
+
+mul-at : tie.Need-mul-at
+mul-at c = search needs
+
+add-end : tie.Need-add-end
+add-end c = search needs
+
+sub-within : tie.Need-sub-within
+sub-within c = search needs
+
+part-within-start : tie.Need-part-within-start
+part-within-start c = search needs
+
+part-within-end : tie.Need-part-within-end
+part-within-end c = search needs
+
+within-requires : tie.Need-within-requires
+within-requires c κs = search needs
+
+returns : tie.Need-returns
+returns c =
+    let g = c .before .before .before .args in
+    c .within .ensures ∙ ap (λ l. atMost (take (g .types) l) (take (g .types) (g .counts))) (counts-in (g .arena .now) (g .i))
+
+pub within-at-spec : {M : Type 1} → statement M
+within-at-spec =
+    tie.close
+    (tie.spec mul-at add-end sub-within part-within-start part-within-end within-requires returns)

@@ -7,8 +7,8 @@ use outline::Way;
 use outlines::Listed;
 use shapes::Job;
 ghost use Rattle.outline.specs.Stands.{outlineOf, wayOf};
-ghost use Rattle.outlines.specs.Listing.{Told, Holds};
-ghost use Rattle.growing.specs.Growing.{Absent, Growable, GrowsIn, Pairable, PairsIn};
+ghost use Rattle.outlines.specs.Listing.{Told, Holds, OutlineIn, JoinIn};
+ghost use Rattle.growing.specs.Growing.{Absent, Comes, classOf, Growable, pairOf, Pairable};
 
 // The outline is one of the first n records', of which none before `start` has its counts.
 fn holds_from(arena: &[u8], start: usize, n: usize, o: Outline, types: usize) -> bool
@@ -29,7 +29,7 @@ fn holds_from(arena: &[u8], start: usize, n: usize, o: Outline, types: usize) ->
 // Adds a build to the class from `start` on, unless it is there.
 pub fn add(job: Job, arena: &mut [u8], start: usize, n: usize, build: Record) -> Listed
     requires { ⌜ Growable job (now arena) start n build ⌝ }
-    ensures { λ r. ⌜ GrowsIn job start build (now (arena .entry)) n (now (arena .exit)) r ⌝ }
+    ensures { λ r. ⌜ Comes job start (classOf job build) (OutlineIn job build) (now (arena .entry)) n (now (arena .exit)) r ⌝ }
 {
     let types = job.count as usize;
     if holds_from(arena, start, n, build.outline, types) {
@@ -53,7 +53,7 @@ pub fn add_join(
     way: Way,
 ) -> Listed
     requires { ⌜ Pairable job (now arena) start n i q ⌝ }
-    ensures { λ r. ⌜ PairsIn job start (wayOf way) i q (now (arena .entry)) n (now (arena .exit)) r ⌝ }
+    ensures { λ r. ⌜ Comes job start (pairOf job (now (arena .entry)) i q) (JoinIn job (wayOf way) i q) (now (arena .entry)) n (now (arena .exit)) r ⌝ }
 {
     let a = arena::load(arena, i);
     let b = arena::load(arena, q);

@@ -26,7 +26,8 @@ use Rattle.outlines.specs.declared.Listed.{Listed}
 use Rattle.outlines.specs.declared.Listed.the-variants.{Complete, Full}
 use Rattle.outlines.specs.Listing.{outlinesIn, Held, Holds, OutlineIn, JoinIn}
 use Rattle.outlines.proofs.Laws.{outline-at, grown-self, grown-le, grown-then, too-many-then, storable, added, is-join, join-addable, join-in, join-not}
-use Rattle.growing.specs.Growing.{Absent, Growing, Came, Comes, classOf, Growable, pairOf, Pairable, numberOf, sideOf}
+use Rattle.growing.specs.Growing.{Absent, Growing, Came, Comes, classOf, Growable, pairOf, Pairable}
+use Rattle.growing.specs.Rows.{numberOf, sideOf}
 
 not-true : (b : Bool) → (b ≡ true → ⊥) → b ≡ false
 not-true true h = absurd (h refl)

@@ -8,8 +8,6 @@ use Rattle.rules.specs.Job as rules
 use Rattle.rules.specs.Planner.{roomOf}
 use Rattle.shapes.specs.declared.Job.{Job}
 use Rattle.outline.specs.declared.Outline.{Outline}
-use Rattle.outline.specs.declared.Way as code
-use Rattle.outline.specs.declared.Way.the-variants.{Beside, Above}
 use Rattle.arena.specs.declared.Record.{Record}
 use Rattle.classes.specs.Orders.{InOrderOf}
 use Rattle.classes.specs.Directory.{countsAt, Directory, Kept}
@@ -59,12 +57,3 @@ pairOf job s i q = rules.plus (countsAt (job .count) s i) (countsAt (job .count)
 pub record Pairable (job : Job) (s : List ℕ) (start n i q : ℕ) : Type 0 where
   pub joinable : Joinable job s n i q
   pub growing : Growing (job .count) s start n (pairOf job s i q)
-
--- the number of a way in the arena's links and sizes, and the sheet's side in it
-abbrev pub numberOf : code.Way → ℕ
-numberOf Beside = 0
-numberOf Above = 1
-
-abbrev pub sideOf : Job → code.Way → ℕ
-sideOf job Beside = job .length
-sideOf job Above = job .width

@@ -181,7 +181,7 @@ recs-at k (suc n) s i h = go (recs-at k n s i) (ℕ-discrete i n)
     go f (yes e) = subst (λ m. at (recs k n s ++ (recOf k (recordAt s n) ∷ [])) m ≡ recOf k (recordAt s m)) (sym e) (getD-at (recs k n s) (recOf k (recordAt s n)) [] noRec n (length-recs k n s))
     go f (no e) = List·getD-append (recs k n s) (recOf k (recordAt s n) ∷ []) noRec i (omega (arith, length-recs k n s)) ∙ f (omega arith)
 
-recs-same : (k n : ℕ) (s t : List ℕ) → ((j : ℕ) → j < n → recordAt s j ≡ recordAt t j) → recs k n s ≡ recs k n t
+pub recs-same : (k n : ℕ) (s t : List ℕ) → ((j : ℕ) → j < n → recordAt s j ≡ recordAt t j) → recs k n s ≡ recs k n t
 unfolding recs
 recs-same k zero s t h = refl
 recs-same k (suc n) s t h = λ i. recs-same k n s t (λ j l. h j (omega arith)) i ++ (recOf k (h n (omega arith) i) ∷ [])

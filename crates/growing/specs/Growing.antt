@@ -4,19 +4,16 @@ use mathlib.Core.List.{List}
 use Prim.Native.Nat.{ℕ, _≤_, _<_}
 use lib.ListN.{length, take}
 use Rattle.rules.specs.Limits.{typesMost}
-use Rattle.rules.specs.Box.{Way}
-use Rattle.rules.specs.Job.{plus}
+use Rattle.rules.specs.Job as rules
 use Rattle.rules.specs.Planner.{roomOf}
 use Rattle.shapes.specs.declared.Job.{Job}
 use Rattle.outline.specs.declared.Outline.{Outline}
-use Rattle.outline.specs.declared.Way as code
-use Rattle.outline.specs.declared.Way.the-variants.{Beside, Above}
 use Rattle.arena.specs.declared.Record.{Record}
 use Rattle.classes.specs.Orders.{InOrderOf}
 use Rattle.classes.specs.Directory.{countsAt, Directory, Kept}
 use Rattle.outlines.specs.declared.Listed.{Listed}
 use Rattle.outlines.specs.declared.Listed.the-variants.{Complete, Full}
-use Rattle.outlines.specs.Listing.{Addable, Joinable, OutlineIn, JoinIn, Grown, TooMany}
+use Rattle.outlines.specs.Listing.{Addable, Joinable, Grown, TooMany}
 
 -- no record before start has the outline's counts
 pub record Absent (types : ℕ) (s : List ℕ) (start n : ℕ) (o : Outline) : Type 0 where
@@ -33,6 +30,16 @@ pub record Growing (types : ℕ) (s : List ℕ) (start n : ℕ) (c : List ℕ) :
   pub counts : (q : ℕ) → start ≤ q → q < n → countsAt types s q ≡ c
   pub orders : (w : ℕ) → w < 2 → InOrderOf s w start n
 
+-- builds came into the class with counts c, P holds of all outlines then, and the records stay
+pub record Came (job : Job) (start : ℕ) (c : List ℕ) (P : List rules.Outline → Type 0) (s : List ℕ) (n : ℕ) (t : List ℕ) (m : ℕ) : Type 0 where
+  pub grown : Grown job P s n t m
+  pub kept : Kept start n s t
+  pub growing : Growing (job .count) t start m c
+
+abbrev pub Comes : (job : Job) (start : ℕ) (c : List ℕ) (P : List rules.Outline → Type 0) (s : List ℕ) (n : ℕ) (t : List ℕ) → Listed → Type 0
+Comes job start c P s n t (Complete m) = Came job start c P s n t m
+Comes job start c P s n t Full = TooMany job s
+
 -- the counts of a build's record
 abbrev pub classOf : Job → Record → List ℕ
 classOf job r = take (job .count) (r .outline .counts)
@@ -42,40 +49,11 @@ pub record Growable (job : Job) (s : List ℕ) (start n : ℕ) (r : Record) : Ty
   pub growing : Growing (job .count) s start n (classOf job r)
   pub addable : Addable job s n r
 
--- the build stands in the class, and the records stay
-pub record GrownIn (job : Job) (start : ℕ) (r : Record) (s : List ℕ) (n : ℕ) (t : List ℕ) (m : ℕ) : Type 0 where
-  pub grown : Grown job (OutlineIn job r) s n t m
-  pub kept : Kept start n s t
-  pub growing : Growing (job .count) t start m (classOf job r)
-
-abbrev pub GrowsIn : (job : Job) (start : ℕ) (r : Record) (s : List ℕ) (n : ℕ) (t : List ℕ) → Listed → Type 0
-GrowsIn job start r s n t (Complete m) = GrownIn job start r s n t m
-GrowsIn job start r s n t Full = TooMany job s
-
 -- the counts of two records together
 abbrev pub pairOf : Job → List ℕ → (i q : ℕ) → List ℕ
-pairOf job s i q = plus (countsAt (job .count) s i) (countsAt (job .count) s q)
+pairOf job s i q = rules.plus (countsAt (job .count) s i) (countsAt (job .count) s q)
 
 -- two records whose joins belong to the class
 pub record Pairable (job : Job) (s : List ℕ) (start n i q : ℕ) : Type 0 where
   pub joinable : Joinable job s n i q
   pub growing : Growing (job .count) s start n (pairOf job s i q)
-
--- their join in a way stands in the class if it fits, and the records stay
-pub record PairIn (job : Job) (start : ℕ) (w : Way) (i q : ℕ) (s : List ℕ) (n : ℕ) (t : List ℕ) (m : ℕ) : Type 0 where
-  pub grown : Grown job (JoinIn job w i q) s n t m
-  pub kept : Kept start n s t
-  pub growing : Growing (job .count) t start m (pairOf job s i q)
-
-abbrev pub PairsIn : (job : Job) (start : ℕ) (w : Way) (i q : ℕ) (s : List ℕ) (n : ℕ) (t : List ℕ) → Listed → Type 0
-PairsIn job start w i q s n t (Complete m) = PairIn job start w i q s n t m
-PairsIn job start w i q s n t Full = TooMany job s
-
--- the number of a way in the arena's links and sizes, and the sheet's side in it
-abbrev pub numberOf : code.Way → ℕ
-numberOf Beside = 0
-numberOf Above = 1
-
-abbrev pub sideOf : Job → code.Way → ℕ
-sideOf job Beside = job .length
-sideOf job Above = job .width

@@ -1,2 +1,3 @@
 -- What a class holds while it grows.
 pub mod Growing
+pub mod Rows

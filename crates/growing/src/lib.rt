@@ -6,9 +6,11 @@ use outline::Outline;
 use outline::Way;
 use outlines::Listed;
 use shapes::Job;
+ghost use mathlib.Core.Path.{_≡_};
 ghost use Rattle.outline.specs.Stands.{outlineOf, wayOf};
-ghost use Rattle.outlines.specs.Listing.{Told, Holds};
-ghost use Rattle.growing.specs.Growing.{Absent, Growable, GrowsIn, Pairable, PairsIn};
+ghost use Rattle.outlines.specs.Listing.{Told, Holds, OutlineIn, JoinIn};
+ghost use Rattle.growing.specs.Growing.{Absent, Comes, classOf, Growable, pairOf, Pairable};
+ghost use Rattle.growing.specs.Rows.{numberOf, sideOf, Rowable, RowWith};
 
 // The outline is one of the first n records', of which none before `start` has its counts.
 fn holds_from(arena: &[u8], start: usize, n: usize, o: Outline, types: usize) -> bool
@@ -29,7 +31,7 @@ fn holds_from(arena: &[u8], start: usize, n: usize, o: Outline, types: usize) ->
 // Adds a build to the class from `start` on, unless it is there.
 pub fn add(job: Job, arena: &mut [u8], start: usize, n: usize, build: Record) -> Listed
     requires { ⌜ Growable job (now arena) start n build ⌝ }
-    ensures { λ r. ⌜ GrowsIn job start build (now (arena .entry)) n (now (arena .exit)) r ⌝ }
+    ensures { λ r. ⌜ Comes job start (classOf job build) (OutlineIn job build) (now (arena .entry)) n (now (arena .exit)) r ⌝ }
 {
     let types = job.count as usize;
     if holds_from(arena, start, n, build.outline, types) {
@@ -53,7 +55,7 @@ pub fn add_join(
     way: Way,
 ) -> Listed
     requires { ⌜ Pairable job (now arena) start n i q ⌝ }
-    ensures { λ r. ⌜ PairsIn job start (wayOf way) i q (now (arena .entry)) n (now (arena .exit)) r ⌝ }
+    ensures { λ r. ⌜ Comes job start (pairOf job (now (arena .entry)) i q) (JoinIn job (wayOf way) i q) (now (arena .entry)) n (now (arena .exit)) r ⌝ }
 {
     let a = arena::load(arena, i);
     let b = arena::load(arena, q);
@@ -69,6 +71,65 @@ pub fn add_join(
                 how: How::Joined(way, i, q),
             },
         );
+    }
+    Listed::Complete(n)
+}
+
+// The number of a way in the arena's links and sizes.
+pub fn number_of(way: Way) -> usize
+    ensures { λ r. ⌜ r ≡ numberOf way ⌝ }
+{
+    match way {
+        Way::Beside => 0,
+        Way::Above => 1,
+    }
+}
+
+// The sheet's side that sizes of a way add up along.
+pub fn side_of(job: Job, way: Way) -> u64
+    ensures { λ r. ⌜ r ≡ sideOf job way ⌝ }
+{
+    match way {
+        Way::Beside => job.length,
+        Way::Above => job.width,
+    }
+}
+
+// Adds the joins that fit of record i with all records of class b, whose counts add up to the class's.
+// The records of b come in order of their size in the way, so that the row ends at the first that is too large.
+pub fn add_row(
+    job: Job,
+    arena: &mut [u8],
+    start: usize,
+    first: usize,
+    i: usize,
+    b: usize,
+    way: Way,
+) -> Listed
+    requires { ⌜ Rowable job (now arena) start first i b ⌝ }
+    ensures { λ r. ⌜ Comes job start (pairOf job (now (arena .entry)) i b) (RowWith job (wayOf way) (now (arena .entry)) i b) (now (arena .entry)) first (now (arena .exit)) r ⌝ }
+{
+    let w = number_of(way);
+    let side = side_of(job, way);
+    let end = classes::end_of(arena, b);
+    let size = arena::size_at(arena, i, w);
+    let mut n = first;
+    let mut k = b;
+    while k < end {
+        let at = k;
+        k += 1;
+        let q = arena::link_at(arena, at, w);
+        if side < size + arena::size_at(arena, q, w) {
+            return Listed::Complete(n);
+        }
+        match add_join(job, arena, start, n, i, q, way) {
+            Listed::Full => {
+                return Listed::Full;
+            }
+            Listed::Complete(m) => {
+                n = m;
+            }
+        }
     }
     Listed::Complete(n)
 }

@@ -1,6 +1,6 @@
 -- `growing::add_join` meets its contract. Assumes nothing.
 use mathlib.Core.Path.{sym, _∙_}
-use Rattle.growing.proofs.Laws.{pair-growable, pair-grows, pair-not}
+use Rattle.growing.proofs.Laws.{pair-growable, pair-comes, pair-not}
 use borrow.Author.Needs.{needs}
 use Rattle.growing.proofs.add_join.Statement.{statement}
 use Rattle.growing.proofs.add_join.Tie as tie
@@ -38,7 +38,7 @@ returns c =
     let b = o .before in
     let a = b .before .before in
     let st = a .before .before .before in
-    pair-grows (st .args .job) (st .args .arena .now) (st .args .start) (st .args .n) (st .args .i) (st .args .q) (st .pre) (st .args .way) _ _ (a .load .ensures) (b .load2 .ensures) _ (o .joined .ensures) (d .add .last .1 .0) (d .add .result) (d .add .ensures)
+    pair-comes (st .args .job) (st .args .arena .now) (st .args .start) (st .args .n) (st .args .i) (st .args .q) (st .pre) (st .args .way) _ _ (a .load .ensures) (b .load2 .ensures) _ (o .joined .ensures) (d .add .last .1 .0) (d .add .result) (d .add .ensures)
 
 same-length-2 : tie.Need-same-length-2
 same-length-2 c = search needs

@@ -1,0 +1,186 @@
+-- The queue of classes: a class comes behind, the classes that follow one, and the end of the queue. Assumes nothing.
+use mathlib.Core.Path.{_≡_, refl, sym, ap, ap₂, _∙_, subst}
+use mathlib.Core.Logic.{_⊎_, inl, inr}
+use mathlib.Core.List.{List, _++_, List·Memᴰ, Memᴰ·append-left, Memᴰ·cast}
+use Prim.Native.Nat.{ℕ, zero, suc, _+_, _*_, _≤_, _<_}
+use native.Mathlib.Omega.{arith}
+use native.Mathlib.Decide.{ℕ-discrete, decLt}
+use lib.ListN.{length, getD, take}
+use Rattle.rules.specs.Bag.{sum, All}
+use Rattle.rules.specs.Box.{Way, along, across}
+use Rattle.rules.specs.Job as rules
+use Rattle.rules.specs.Planner.{roomOf}
+use Rattle.rules.proofs.Accept.{job-typed}
+use Rattle.rules.proofs.Bags.{all-at}
+use Rattle.rules.proofs.Bridge.{join, join-counts}
+use Rattle.rules.proofs.Classes.{NoneAfter, oneMore, turned, sum-more, some-pieces, join-pieces, below-in, all-in}
+use Rattle.rules.proofs.Halves.{Able, whole-single, whole-in, whole-over, more-at}
+use Rattle.rules.proofs.Tally.{sum-plus}
+use Rattle.rules.proofs.Worklist.{index}
+use Rattle.shapes.specs.declared.Job.{Job}
+use Rattle.shapes.specs.Handed.{numbersOf}
+use Rattle.outline.specs.declared.Least.{Least}
+use Rattle.outline.specs.Stands.{JobInRange, jobFor, outlineOf, LeastOf}
+use Rattle.outline.proofs.Laws.{types-count, demand-at, least-job, noPiece}
+use Rattle.arena.specs.Records.{recordAt, linkAt}
+use Rattle.arena.proofs.Laws.{recs-same}
+use Rattle.classes.specs.Directory.{countsAt, endLink, Begins, Class, Directory}
+use Rattle.classes.proofs.Laws.{class-at, next-begins}
+use Rattle.outlines.specs.declared.Listed.{Listed}
+use Rattle.outlines.specs.declared.Listed.the-variants.{Complete, Full}
+use Rattle.outlines.specs.Listing.{recsIn, outlinesIn, outlinesOf, noOutline, Building, Sound, Held, Ready, JoinIn, StartsIn, Grown, TooMany, AllListed}
+use Rattle.outlines.proofs.Lists.{mem-at}
+use Rattle.outlines.proofs.Laws.{length-outlines, outline-at, grown-self, grown-le, grown-then, outlines-stay, too-many-then}
+use Rattle.growing.specs.Growing.{Growing, Came}
+use Rattle.listing.specs.Queue.{outlineAt, keyAt, piecesAt, WholeIn, BelowIn, NextIn, Classed, Turn, Queued, HalfAt, Followed, Follows, leastBy, Sought, PairsBefore, Target, Source, Closed}
+use Rattle.listing.proofs.Targets.{build-at, key-length}
+
+-- what holds of a list holds where others come behind
+whole-more : {job : Job} {c : List ℕ} (l b : List rules.Outline) → WholeIn job c l → WholeIn job c (l ++ b)
+whole-more l b f o d e = Memᴰ·append-left b (f o d e)
+
+next-more : {job : Job} {c : List ℕ} (l b : List rules.Outline) → NextIn job c l → NextIn job c (l ++ b)
+next-more l b f t h n = whole-more l b (f t h n)
+
+-- the pieces of a record
+some-at : {job : Job} {s : List ℕ} {n : ℕ} → Ready job s n → (i : ℕ) → i < n → 1 ≤ piecesAt job s i
+some-at {job} r i h = some-pieces (job-typed (numbersOf job)) (build-at r i h)
+
+-- the same records, so that the list is the same
+module _ {job : Job} {s t : List ℕ} {n : ℕ} (len : length t ≡ length s) (same : (i : ℕ) → i < n → recordAt t i ≡ recordAt s i) where
+  pub recs-stay : recsIn job t n ≡ recsIn job s n
+  recs-stay = recs-same (job .count) n t s same
+
+  pub held-stays : Held job s n → Held job t n
+  held-stays h = record { room = omega (arith, h .room, ap roomOf len); sound = subst (Sound (jobFor job)) (sym recs-stay) (h .sound) }
+
+  pub key-same : (i : ℕ) → i < n → keyAt job t i ≡ keyAt job s i
+  key-same i h = ap (λ u. take (job .count) (u .outline .counts)) (same i h)
+
+-- the class with counts c has grown, and is closed
+module _ {job : Job} {least : Least} {s : List ℕ} {start half : ℕ} {c : List ℕ} (h : Target job least s start half c) {t u : List ℕ} {n : ℕ} (g : Came job start c (PairsBefore job least s start c half) s start t n) (k : Closed (job .count) t n u) where
+  abbrev list : List rules.Outline
+  list = outlinesIn job t n
+
+  abbrev before : List rules.Outline
+  before = outlinesIn job s start
+
+  grows : list ≡ before ++ outlinesOf (g .grown .behind)
+  grows = outlines-stay job (g .grown)
+
+  ready : Ready job t n
+  ready = record { range = h .classed .ready .range; held = g .grown .held }
+
+  old-key : (i : ℕ) → i < start → keyAt job t i ≡ keyAt job s i
+  old-key i x = ap (λ r. take (job .count) (r .outline .counts)) (g .kept .records i x)
+
+  -- a part of the counts is of a class before
+  part-old : (i : ℕ) → i < n → piecesAt job t i < sum c → i < start
+  part-old i x y = go (decLt i start)
+    where
+      go : Dec (i < start) → i < start
+      go (yes z) = z
+      go (no z) = absurd (omega (arith, y, ap sum (g .growing .counts i (omega arith) x)))
+
+  -- with at most half of the pieces it stands before half
+  part-half : (i : ℕ) → i < start → 2 * piecesAt job s i ≤ sum c → i < half
+  part-half i x y = go (decLt i half)
+    where
+      go : Dec (i < half) → i < half
+      go (yes z) = z
+      go (no z) = absurd (beyond (ℕ-discrete half i))
+        where
+          beyond : Dec (half ≡ i) → ⊥
+          beyond (yes e) = omega (arith, h .half-at .beyond (omega arith), y, ap (piecesAt job s) e)
+          beyond (no e) = omega (arith, h .half-at .beyond (omega arith), y, h .classed .rising half i (omega arith) x)
+
+  joins : (w : Way) (a b : rules.Outline) → List·Memᴰ a list → Able (leastBy least) (turned w) a → List·Memᴰ b list → rules.plus (a .counts) (b .counts) ≡ c → 2 * rules.pieces a ≤ sum c → rules.Fits (jobFor job) (join w a b) → List·Memᴰ (join w a b) list
+  joins w a b ma able mb e two fit = go (index noOutline ma) (index noOutline mb)
+    where
+      go : (i : ℕ) × (i < length list) × (getD list i noOutline ≡ a) → (q : ℕ) × (q < length list) × (getD list q noOutline ≡ b) → List·Memᴰ (join w a b) list
+      go (i, li, ei) (q, lq, eq) =
+          let hi : i < n = omega (arith, length-outlines job t n) in
+          let hq : q < n = omega (arith, length-outlines job t n) in
+          let oi : outlineAt job t i ≡ a = sym (outline-at (job .count) t n i hi) ∙ ei in
+          let oq : outlineAt job t q ≡ b = sym (outline-at (job .count) t n q hq) ∙ eq in
+          let ki = ap (λ (o : rules.Outline). o .counts) oi in
+          let kq = ap (λ (o : rules.Outline). o .counts) oq in
+          let p : piecesAt job t i + piecesAt job t q ≡ sum c =
+          sym (sum-plus (keyAt job t i) (keyAt job t q) (key-length ready i hi ∙ sym (key-length ready q hq))) ∙ ap sum (ap₂ rules.plus ki kq ∙ e) in
+          let si : i < start = part-old i hi (omega (arith, p, some-at ready q hq)) in
+          let sq : q < start = part-old q hq (omega (arith, p, some-at ready i hi)) in
+          let half-i : i < half = part-half i si (omega (arith, two, ap sum ki, ap sum (old-key i si))) in
+          let able-i = subst (Able (leastBy least) (turned w)) (sym oi ∙ ap (λ r. outlineOf (job .count) (r .outline)) (g .kept .records i si)) able in
+          let pair = ap₂ rules.plus (sym (old-key i si) ∙ ki) (sym (old-key q sq) ∙ kq) ∙ e in
+          let j = ap₂ (join w) ei eq in
+          Memᴰ·cast (sym j) (g .grown .has i half-i w q sq pair able-i (subst (rules.Fits (jobFor job)) (sym j) fit))
+
+  whole-list : WholeIn job c list
+  whole-list = whole-in (job-typed (numbersOf job)) (leastBy least) (least-job job (h .classed .ready .range) least (h .least-of)) list (g .grown .held .sound .only) c (h .two)
+      (λ o d x. subst (List·Memᴰ o) (sym grows) (Memᴰ·append-left (outlinesOf (g .grown .behind)) (h .below o d x))) joins
+
+  same : recsIn job u n ≡ recsIn job t n
+  same = recs-stay {job = job} {n = n} (k .same-length) (λ i _. k .records i)
+
+  list-is : outlinesIn job u n ≡ before ++ outlinesOf (g .grown .behind)
+  list-is = ap outlinesOf same ∙ grows
+
+  whole-now : WholeIn job c (outlinesIn job u n)
+  whole-now = subst (WholeIn job c) (ap outlinesOf (sym same)) whole-list
+
+  key-now : (i : ℕ) → keyAt job u i ≡ keyAt job t i
+  key-now i = ap (λ r. take (job .count) (r .outline .counts)) (k .records i)
+
+  new-key : (q : ℕ) → start ≤ q → q < n → keyAt job u q ≡ c
+  new-key q x y = key-now q ∙ g .growing .counts q x y
+
+  kept-key : (q : ℕ) → q < start → keyAt job u q ≡ keyAt job s q
+  kept-key q x = key-now q ∙ old-key q x
+
+  pub target-done : Followed job (WholeIn job c) (sum c) s start u n
+  target-done = record {
+    grown = record { held = held; behind = g .grown .behind; stay = same ∙ g .grown .stay; has = whole-now };
+    classed = record {
+      ready = record { range = h .classed .ready .range; held = held };
+      directory = k .directory;
+      starts = λ o st f. subst (List·Memᴰ o) (sym list-is) (Memᴰ·append-left (outlinesOf (g .grown .behind)) (h .classed .starts o st f));
+      whole = λ q x. each q x (decLt q start);
+      rising = λ p q x y. order p q x y (decLt p start) (decLt q start);
+    };
+    same-length = k .same-length ∙ g .kept .same-length;
+    records = λ i x. k .records i ∙ g .kept .records i x;
+    new = λ q x y. ap sum (new-key q x y);
+  }
+    where
+      held : Held job u n
+      held = held-stays {job = job} {n = n} (k .same-length) (λ i _. k .records i) (g .grown .held)
+
+      each : (q : ℕ) → q < n → Dec (q < start) → WholeIn job (keyAt job u q) (outlinesIn job u n)
+      each q x (yes y) = subst (λ v. WholeIn job v (outlinesIn job u n)) (sym (kept-key q y)) (subst (WholeIn job (keyAt job s q)) (sym list-is) (whole-more {job = job} before (outlinesOf (g .grown .behind)) (h .classed .whole q y)))
+      each q x (no y) = subst (λ v. WholeIn job v (outlinesIn job u n)) (sym (new-key q (omega arith) x)) whole-now
+
+      order : (p q : ℕ) → p < q → q < n → Dec (p < start) → Dec (q < start) → piecesAt job u p ≤ piecesAt job u q
+      order p q x y (yes a) (yes b) = omega (arith, h .classed .rising p q x b, ap sum (kept-key p a), ap sum (kept-key q b))
+      order p q x y (yes a) (no b) = omega (arith, h .top p a, ap sum (kept-key p a), ap sum (new-key q (omega arith) y))
+      order p q x y (no a) (yes b) = absurd (omega arith)
+      order p q x y (no a) (no b) = omega (arith, ap sum (new-key p (omega arith) (omega arith)), ap sum (new-key q (omega arith) y))
+
+-- nothing comes
+pub followed-self : {job : Job} {P : List rules.Outline → Type 0} {k : ℕ} {s : List ℕ} {n : ℕ} → Classed job s n → P (outlinesIn job s n) → Followed job P k s n s n
+followed-self {job} {s = s} {n = n} c p = record { grown = grown-self job s n (c .ready .held) p; classed = c; same-length = refl; records = λ i h. refl; new = λ q x y. absurd (omega arith) }
+
+-- one step behind another
+pub followed-then : {job : Job} {P Q R : List rules.Outline → Type 0} {k : ℕ} {s t u : List ℕ} {n m r : ℕ} → ((l b : List rules.Outline) → length l ≡ m → P l → Q (l ++ b) → R (l ++ b)) → Followed job P k s n t m → Followed job Q k t m u r → Followed job R k s n u r
+followed-then {job} {k = k} {u = u} {n = n} {m = m} {r = r} f g h =
+    let le = grown-le job (g .grown) in
+    record {
+      grown = grown-then job f (g .grown) (h .grown);
+      classed = h .classed;
+      same-length = h .same-length ∙ g .same-length;
+      records = λ i x. h .records i (omega arith) ∙ g .records i x;
+      new = λ q x y. each q x y (decLt q m);
+    }
+  where
+    each : (q : ℕ) → n ≤ q → q < r → Dec (q < m) → piecesAt job u q ≡ k
+    each q x y (yes z) = ap (λ v. sum (take (job .count) (v .outline .counts))) (h .records q z) ∙ g .new q x z
+    each q x y (no z) = h .new q (omega arith) y

@@ -1,8 +1,9 @@
--- Laws of counts, of a job's types, and of one piece's counts. Assumes nothing.
+-- Laws of counts, of a job's types, of its least sizes, and of one piece's counts. Assumes nothing.
 use mathlib.Core.Path.{_≡_, refl, sym, ap, _∙_, subst}
 use mathlib.Core.Bool.{true, false, true≢false}
-use mathlib.Core.List.{List, [], _∷_, map}
-use Prim.Native.Nat.{ℕ, zero, suc, _+_, _%_, _≤_, _<_}
+use mathlib.Core.Logic.{_⊎_, inl, inr}
+use mathlib.Core.List.{List, [], _∷_, map, List·Memᴰ, List·Memᴰ·not-nil, List·Memᴰ·cases-cons}
+use Prim.Native.Nat.{ℕ, zero, suc, _+_, _%_, _≤_, _<_, min}
 use native.Mathlib.Omega.{arith}
 use native.Mathlib.Decide.{ℕ-discrete, decLe}
 use lib.Dec.{eqb, leb}
@@ -12,16 +13,21 @@ use borrow.Author.Count.{below-more}
 use borrow.Author.Tests.{le-leb, lt-leb, eq-eqb, ne-eqb}
 use Rattle.rules.specs.Limits.{typesMost, demandMost}
 use Rattle.rules.specs.Bag.{tick, All, nil, cons}
-use Rattle.rules.specs.Job.{AtMost, plus, table, types, alone}
-use Rattle.rules.specs.Numbers.{PieceType, noType}
+use Rattle.rules.specs.Box.{Way, along, across}
+use Rattle.rules.specs.Job as rules
+use Rattle.rules.specs.Job.{AtMost, Piece, plus, table, types, alone}
+use Rattle.rules.specs.Numbers.{PieceType, noType, grown, singlesFrom}
 use Rattle.rules.proofs.Bools.{and-false-left, and-false-right, both-and}
 use Rattle.rules.proofs.Tally.{length-table}
 use Rattle.rules.proofs.Outlines.{atMost}
+use Rattle.rules.proofs.Least.{Least, sizeBy}
 use Rattle.rules.proofs.Ranges.{TypeInRange}
 use Rattle.shapes.specs.declared.Job.{Job}
 use Rattle.shapes.specs.declared.PieceType as shapes
 use Rattle.shapes.specs.Handed.{typeOf, numbersOf}
-use Rattle.outline.specs.Stands.{JobInRange, jobFor, pieceAt, Few, sums, Alone}
+use Rattle.outline.specs.declared.Least as code
+use Rattle.outline.specs.declared.Outline.{Outline}
+use Rattle.outline.specs.Stands.{JobInRange, jobFor, pieceAt, Few, sums, Alone, LeastAmong, LeastOf, leastBy, twoBytes}
 
 -- a store at i, where what holds below i holds at i by the value stored
 pub grow : (r : List ℕ) (i v : ℕ) (f : ℕ → ℕ) → i < length r → ((k : ℕ) → k < i → getD r k 0 ≡ f k) → v ≡ f i → (k : ℕ) → k < i + 1 → getD (set r i v) k 0 ≡ f k
@@ -132,6 +138,43 @@ module _ (job : Job) (r : JobInRange job) where
       demands : (l : List PieceType) → All TypeInRange l → All (λ x. x ≤ demandMost) (map (λ (p : PieceType). p .demand) l)
       demands [] a = nil
       demands (p ∷ l) (cons q a) = cons {x = p .demand} (q .demand .high) (demands l a)
+
+-- the pieces of a job are those of its types
+singles-index : (k t : ℕ) (ps : List PieceType) {s : Piece} → List·Memᴰ s (singlesFrom k t ps) → (i : ℕ) × (i < length ps) × (s ≡ grown k (t + i) (getD ps i noType))
+singles-index k t [] m = absurd (List·Memᴰ·not-nil m)
+singles-index k t (p ∷ ps) {s} m = go (singles-index k (suc t) ps) (List·Memᴰ·cases-cons m)
+  where
+    go : (List·Memᴰ s (singlesFrom k (suc t) ps) → (i : ℕ) × (i < length ps) × (s ≡ grown k (suc t + i) (getD ps i noType))) → (s ≡ grown k t p) ⊎ List·Memᴰ s (singlesFrom k (suc t) ps) → (i : ℕ) × (i < length (p ∷ ps)) × (s ≡ grown k (t + i) (getD (p ∷ ps) i noType))
+    go r (inl e) = (0, omega arith, e ∙ (let z : t ≡ t + 0 = omega arith in λ j. grown k (z j) p))
+    go r (inr n) =
+        let q = r n in
+        let z : suc t + q .0 ≡ t + suc (q .0) = omega arith in
+        (suc (q .0), omega (arith, q .1), q .2 ∙ (λ j. grown k (z j) (getD ps (q .0) noType)))
+
+pub single-at : (job : Job) → JobInRange job → {p : Piece} → List·Memᴰ p (jobFor job .singles) → (t : ℕ) × (t < job .count) × (p ≡ pieceAt job t)
+single-at job r m =
+    let q = singles-index (job .kerf) 1 (numbersOf job .types) m in
+    let z : 1 + q .0 ≡ suc (q .0) = omega arith in
+    (q .0, omega (arith, q .1, count-types job r), q .2 ∙ (λ j. grown (job .kerf) (z j) (getD (numbersOf job .types) (q .0) noType)))
+
+-- the least sizes, type by type
+pub least-none : (job : Job) → LeastAmong job 0 (record { length = twoBytes; width = twoBytes })
+least-none job = record { long = λ t h. absurd (omega arith); wide = λ t h. absurd (omega arith); long-small = omega arith; wide-small = omega arith }
+
+pub least-next : (job : Job) (t : ℕ) {l w x y : ℕ} (o : Outline) → LeastAmong job t (record { length = l; width = w }) → Alone job t o → x ≡ min l (o .length .0) → y ≡ min w (o .width .0) → LeastAmong job (t + 1) (record { length = x; width = y })
+least-next job t o r a p q = record {
+  long = below-more _ t (λ k h. omega (arith, r .long k h)) (omega (arith, ap (λ (u : rules.Outline). u .long) (a .alone)));
+  wide = below-more _ t (λ k h. omega (arith, r .wide k h)) (omega (arith, ap (λ (u : rules.Outline). u .wide) (a .alone)));
+  long-small = omega (arith, r .long-small);
+  wide-small = omega (arith, r .wide-small);
+}
+
+pub least-of : (job : Job) → JobInRange job → (w : Way) (r : code.Least) → LeastOf job r → Least (jobFor job) w (leastBy w r)
+least-of job range w r l = record { each = λ p m. go w p (single-at job range m) }
+  where
+    go : (w : Way) (p : Piece) → (t : ℕ) × (t < job .count) × (p ≡ pieceAt job t) → leastBy w r ≤ sizeBy w (alone (jobFor job) p)
+    go along p q = omega (arith, l .long (q .0) (q .1), ap (λ (u : Piece). u .long) (q .2))
+    go across p q = omega (arith, l .wide (q .0) (q .1), ap (λ (u : Piece). u .wide) (q .2))
 
 -- one piece of type t as the code makes it
 pub alone-of : (job : Job) → JobInRange job → (t : ℕ) → t < job .count → (l w : ℕ) → l ≡ getD (job .types) t noPiece .length + job .kerf → w ≡ getD (job .types) t noPiece .width + job .kerf → Alone job t (record { length = record { 0 = l }; width = record { 0 = w }; counts = set (replicate typesMost 0) t 1 })

@@ -12,6 +12,7 @@ use Rattle.rules.proofs.Ranges.{InRange}
 use Rattle.shapes.specs.declared.Job.{Job}
 use Rattle.shapes.specs.Handed.{numbersOf}
 use Rattle.outline.specs.declared.Outline.{Outline}
+use Rattle.outline.specs.declared.Least.{Least}
 use Rattle.outline.specs.declared.Way.{Way}
 use Rattle.outline.specs.declared.Way.the-variants.{Beside, Above}
 
@@ -62,3 +63,18 @@ pub record Joins (f : rules.Outline → rules.Outline → rules.Outline) (a b r 
 -- r is the outline of one piece of type t, counted from 0
 pub record Alone (job : Job) (t : ℕ) (r : Outline) : Type 0 where
   pub alone : outlineOf (job .count) r ≡ rules.alone (jobFor job) (pieceAt job t)
+
+-- no piece of the first n types is smaller than r says, and r can be added to sizes
+pub record LeastAmong (job : Job) (n : ℕ) (r : Least) : Type 0 where
+  pub long : (t : ℕ) → t < n → r .length ≤ pieceAt job t .long
+  pub wide : (t : ℕ) → t < n → r .width ≤ pieceAt job t .wide
+  pub long-small : r .length ≤ twoBytes
+  pub wide-small : r .width ≤ twoBytes
+
+abbrev pub LeastOf : Job → Least → Type 0
+LeastOf job r = LeastAmong job (job .count) r
+
+-- in a way
+abbrev pub leastBy : box.Way → Least → ℕ
+leastBy box.along r = r .length
+leastBy box.across r = r .width

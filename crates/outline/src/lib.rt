@@ -4,12 +4,12 @@
 use shapes::Job;
 use shapes::TYPES_MOST;
 ghost use mathlib.Core.Path.{_≡_};
-ghost use Prim.Native.Nat.{_+_, _%_, _<_, max};
+ghost use Prim.Native.Nat.{_+_, _%_, _<_, max, min};
 ghost use Rattle.rules.specs.Job.{horizontal, vertical};
 ghost use Rattle.rules.proofs.Bridge.{join};
 ghost use Rattle.rules.proofs.Outlines.{atMost, fits};
 ghost use lib.ListN.{take};
-ghost use Rattle.outline.specs.Stands.{JobInRange, jobFor, outlineOf, Sized, sums, Joins, wayOf, Alone, twoBytes};
+ghost use Rattle.outline.specs.Stands.{JobInRange, jobFor, outlineOf, Sized, sums, Joins, wayOf, Alone, LeastOf, twoBytes};
 
 pub struct Along(pub u64);
 
@@ -170,4 +170,38 @@ pub fn single(job: Job, t: usize) -> Outline
         width,
         counts,
     }
+}
+
+// The smaller of the two.
+fn smaller(a: u64, b: u64) -> u64
+    ensures { λ r. ⌜ r ≡ min a b ⌝ }
+{
+    if b < a { b } else { a }
+}
+
+// Sizes below which no piece of a job is, and so no build.
+pub struct Least {
+    pub length: u64,
+    pub width: u64,
+}
+
+// What two bytes hold is below: no piece of a job is as large.
+const TWO_BYTES: u64 = 65_536;
+
+// The length of a job's shortest piece and the width of its narrowest, grown.
+pub fn least_sizes(job: Job) -> Least
+    requires { ⌜ JobInRange job ⌝ }
+    ensures { λ r. ⌜ LeastOf job r ⌝ }
+{
+    let n = job.count as usize;
+    let mut length = TWO_BYTES;
+    let mut width = TWO_BYTES;
+    let mut t = 0;
+    while t < n {
+        let o = single(job, t);
+        length = smaller(length, o.length.0);
+        width = smaller(width, o.width.0);
+        t += 1;
+    }
+    Least { length, width }
 }

@@ -1,8 +1,7 @@
 -- What each step of listing does to the records of the arena. Assumes nothing.
 use mathlib.Core.Path.{_≡_, refl, sym, ap, ap₂, _∙_, subst}
 use mathlib.Core.Bool.{true, false, true≢false}
-use mathlib.Core.Logic.{_⊎_, inl, inr}
-use mathlib.Core.List.{List, [], _∷_, _++_, append-nil, append-assoc, List·Memᴰ, List·Memᴰ·head, List·Memᴰ·tail, List·Memᴰ·not-nil, List·Memᴰ·cases-cons, Memᴰ·append-left, Memᴰ·append-right, Memᴰ·cast}
+use mathlib.Core.List.{List, [], _∷_, _++_, append-nil, append-assoc, List·Memᴰ, List·Memᴰ·head, List·Memᴰ·tail, Memᴰ·append-left, Memᴰ·append-right, Memᴰ·cast}
 use Prim.Native.Nat.{ℕ, zero, suc, _+_, _≤_, _<_}
 use native.Mathlib.Omega.{arith}
 use native.Mathlib.Numerals.{add-one}
@@ -26,7 +25,7 @@ use Rattle.shapes.specs.Handed.{numbersOf}
 use Rattle.outline.specs.declared.Outline.{Outline}
 use Rattle.outline.specs.declared.Way as code
 use Rattle.outline.specs.Stands.{JobInRange, jobFor, pieceAt, outlineOf, wayOf, Few, Joins, Alone, twoBytes}
-use Rattle.outline.proofs.Laws.{count-types, fits-few}
+use Rattle.outline.proofs.Laws.{count-types, fits-few, single-at}
 use Rattle.arena.specs.declared.How.the-variants.{Piece, Joined}
 use Rattle.arena.specs.declared.Record.{Record}
 use Rattle.outline.specs.declared.Way.the-variants.{Beside, Above}
@@ -128,17 +127,6 @@ module _ (job : Job) (s : List ℕ) (n : ℕ) (r : Record) (a : Addable job s n 
       (m .0, m .1, m .2, m .3 ∙ ap suc (length-recs (job .count) n s ∙ e))
 
 -- a piece alone
-singles-index : (k t : ℕ) (ps : List PieceType) {s : rules.Piece} → List·Memᴰ s (singlesFrom k t ps) → (i : ℕ) × (i < length ps) × (s ≡ grown k (t + i) (getD ps i noType))
-singles-index k t [] m = absurd (List·Memᴰ·not-nil m)
-singles-index k t (p ∷ ps) {s} m = go (singles-index k (suc t) ps) (List·Memᴰ·cases-cons m)
-  where
-    go : (List·Memᴰ s (singlesFrom k (suc t) ps) → (i : ℕ) × (i < length ps) × (s ≡ grown k (suc t + i) (getD ps i noType))) → (s ≡ grown k t p) ⊎ List·Memᴰ s (singlesFrom k (suc t) ps) → (i : ℕ) × (i < length (p ∷ ps)) × (s ≡ grown k (t + i) (getD (p ∷ ps) i noType))
-    go r (inl e) = (0, omega arith, e ∙ (let z : t ≡ t + 0 = omega arith in λ j. grown k (z j) p))
-    go r (inr n) =
-        let q = r n in
-        let z : suc t + q .0 ≡ t + suc (q .0) = omega arith in
-        (suc (q .0), omega (arith, q .1), q .2 ∙ (λ j. grown k (z j) (getD ps (q .0) noType)))
-
 single-mem : (k t : ℕ) (ps : List PieceType) (i : ℕ) → i < length ps → List·Memᴰ (grown k (t + i) (getD ps i noType)) (singlesFrom k t ps)
 single-mem k t [] i h = absurd (omega arith)
 single-mem k t (p ∷ ps) zero h = List·Memᴰ·head (let z : t + 0 ≡ t = omega arith in λ j. grown k (z j) p)
@@ -152,10 +140,9 @@ module _ (job : Job) (range : JobInRange job) where
   pub all-starts : (l : List rules.Outline) → ((t : ℕ) → t < job .count → SingleIn job t l) → StartsIn job l
   all-starts l f o st k =
       let a = from-map (rules.alone (jobFor job)) (jobFor job .singles) st in
-      let q = singles-index (job .kerf) 1 (numbersOf job .types) (a .1) in
-      let z : 1 + q .0 ≡ suc (q .0) = omega arith in
-      let e : o ≡ rules.alone (jobFor job) (pieceAt job (q .0)) = a .2 ∙ ap (rules.alone (jobFor job)) (q .2 ∙ (λ j. grown (job .kerf) (z j) (getD (numbersOf job .types) (q .0) noType))) in
-      Memᴰ·cast e (f (q .0) (omega (arith, q .1, count-types job range)) (subst (rules.Fits (jobFor job)) e k))
+      let q = single-at job range (a .1) in
+      let e : o ≡ rules.alone (jobFor job) (pieceAt job (q .0)) = a .2 ∙ ap (rules.alone (jobFor job)) (q .2) in
+      Memᴰ·cast e (f (q .0) (q .1) (subst (rules.Fits (jobFor job)) e k))
 
   pub single-addable : (s : List ℕ) (n t : ℕ) (o : Outline) → Ready job s n → t < job .count → Alone job t o → fits (jobFor job) (outlineOf (job .count) o) ≡ true → Addable job s n (record { outline = o; how = Piece (t + 1) })
   single-addable s n t o r h al f =

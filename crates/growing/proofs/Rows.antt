@@ -180,6 +180,10 @@ pub record RowsGone (job : Job) (start : ℕ) (way : code.Way) (w side end least
   pub smallest : least ≡ sizeIn s w (namedIn s w b)
   pub gone : Gone job start (pairOf job s a b) (λ i l. RowWith job (wayOf way) s i b l) w a end s n t m k
 
+-- the smallest of class b is in the arena
+pub rows-smallest : {job : Job} {start a b : ℕ} {s : List ℕ} {n : ℕ} → Rowsable job s start n a b → (w : ℕ) → w < 2 → namedIn s w b < roomOf (length s)
+rows-smallest {b = b} z w two = omega (arith, z .class .orders w two .within b (omega arith) (z .class .some) .1, z .class .ends, z .growing .directory .room)
+
 pub rows-none : {job : Job} {start : ℕ} (way : code.Way) {w side end least a b : ℕ} {s : List ℕ} {n : ℕ} → Rowsable job s start n a b → w ≡ numberOf way → side ≡ sideOf job way → end ≡ linkAt s a endLink → least ≡ sizeIn s w (namedIn s w b) → RowsGone job start way w side end least a b s n s n a
 rows-none way z nu si en le = record { asked = z; number = nu; sheet = si; smallest = le; gone = gone-none (z .first) (two-ways way nu) en (z .ready .held) (z .growing) }
 

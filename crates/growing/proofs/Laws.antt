@@ -42,6 +42,10 @@ module _ (job : Job) {start : ℕ} {c : List ℕ} where
   pub came-self : {P : List rules.Outline → Type 0} {s : List ℕ} {n : ℕ} → Held job s n → Growing (job .count) s start n c → P (outlinesIn job s n) → Came job start c P s n s n
   came-self {s = s} {n = n} h g p = record { grown = grown-self job s n h p; kept = kept-self start n s; growing = g }
 
+  -- the same step ends with another fact
+  pub came-with : {P R : List rules.Outline → Type 0} {s t : List ℕ} {n m : ℕ} → Came job start c P s n t m → R (outlinesIn job t m) → Came job start c R s n t m
+  came-with g h = record { grown = record { held = g .grown .held; behind = g .grown .behind; stay = g .grown .stay; has = h }; kept = g .kept; growing = g .growing }
+
   pub came-then : {P Q R : List rules.Outline → Type 0} {s t u : List ℕ} {n m k : ℕ} → ((l b : List rules.Outline) → length l ≡ m → P l → Q (l ++ b) → R (l ++ b)) → Came job start c P s n t m → Came job start c Q t m u k → Came job start c R s n u k
   came-then f g h = record { grown = grown-then job f (g .grown) (h .grown); kept = kept-then (grown-le job (g .grown)) (g .kept) (h .kept); growing = h .growing }
 

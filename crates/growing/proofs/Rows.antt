@@ -5,7 +5,7 @@ use Prim.Native.Nat.{ℕ, _+_, _≤_, _<_}
 use native.Mathlib.Omega.{arith}
 use native.Mathlib.Decide.{decLt}
 use borrow.Author.Count.{below-more}
-use lib.ListN.{length, take, List·getD-append}
+use lib.ListN.{length, List·getD-append}
 use Rattle.rules.specs.Box.{Way}
 use Rattle.rules.specs.Job as rules
 use Rattle.rules.specs.Planner.{roomOf}
@@ -16,13 +16,13 @@ use Rattle.outline.specs.declared.Way.the-variants.{Beside, Above}
 use Rattle.outline.specs.Stands.{jobFor, wayOf}
 use Rattle.arena.specs.Records.{recordAt, sizeOf, linkAt}
 use Rattle.classes.specs.Orders.{sizeIn, namedIn}
-use Rattle.classes.specs.Directory.{countsAt, endLink, Class, Kept}
-use Rattle.classes.proofs.Laws.{class-kept, row-stops, row-whole}
+use Rattle.classes.specs.Directory.{countsAt, endLink, Class, Directory, Kept}
+use Rattle.classes.proofs.Laws.{counts-stay, class-kept, row-stops, row-whole}
 use Rattle.outlines.specs.Listing.{outlinesIn, noOutline, Held, JoinIn}
 use Rattle.outlines.proofs.Laws.{outline-at}
 use Rattle.growing.specs.Growing.{Growing, Came, pairOf, Pairable}
 use Rattle.growing.specs.Rows.{numberOf, sideOf, OfClass, RowWith, RowsWith, Rowable, Rowsable}
-use Rattle.growing.proofs.Laws.{came-self, came-then, fits-side}
+use Rattle.growing.proofs.Laws.{came-self, came-with, came-then, fits-side}
 
 -- a way's number, as the code holds it
 pub two-ways : (way : code.Way) {w : ℕ} → w ≡ numberOf way → w < 2
@@ -40,10 +40,8 @@ module _ {start n : ℕ} {s t : List ℕ} (begins : start ≤ n) (k : Kept start
   size-stays : (w q : ℕ) → q < start → sizeIn t w q ≡ sizeIn s w q
   size-stays w q h = ap (λ u. sizeOf w (u .outline)) (k .records q (omega arith))
 
-  pair-stays : (job : Job) (i q : ℕ) → i < start → q < start → pairOf job t i q ≡ pairOf job s i q
-  pair-stays job i q x y =
-      let e : (j : ℕ) → j < start → countsAt (job .count) t j ≡ countsAt (job .count) s j = λ j h. ap (λ u. take (job .count) (u .outline .counts)) (k .records j (omega arith)) in
-      ap₂ rules.plus (e i x) (e q y)
+  pair-stays : (job : Job) → Directory (job .count) s start → (i q : ℕ) → i < start → q < start → pairOf job t i q ≡ pairOf job s i q
+  pair-stays job d i q x y = ap₂ rules.plus (counts-stay d begins k i x) (counts-stay d begins k q y)
 
 -- no join fits that is larger in its way than the sheet
 module _ (job : Job) {start : ℕ} {c : List ℕ} {P : List rules.Outline → Type 0} {s t : List ℕ} {n m : ℕ} (g : Came job start c P s n t m) (begins : start ≤ n) where
@@ -54,10 +52,6 @@ module _ (job : Job) {start : ℕ} {c : List ℕ} {P : List rules.Outline → Ty
       let z = fits-side job way (job .count) (recordAt t i .outline) (recordAt t q .outline) (subst (rules.Fits (jobFor job)) (ap₂ (join (wayOf way)) x y) f) in
       let at : (j : ℕ) → j < start → sizeIn t (numberOf way) j ≡ sizeIn s w j = λ j l. ap (λ v. sizeIn t v j) (sym e) ∙ size-stays begins (g .kept) w j l in
       absurd (omega (arith, h, z, at i hi, at q hq))
-
--- the same step ends with another fact
-pub came-with : {job : Job} {start : ℕ} {c : List ℕ} {P R : List rules.Outline → Type 0} {s t : List ℕ} {n m : ℕ} → Came job start c P s n t m → R (outlinesIn job t m) → Came job start c R s n t m
-came-with g h = record { grown = record { held = g .grown .held; behind = g .grown .behind; stay = g .grown .stay; has = h }; kept = g .kept; growing = g .growing }
 
 -- as far as class p has been gone through in the order of a way: Q holds of those named before place k
 pub record Gone (job : Job) (start : ℕ) (c : List ℕ) (Q : ℕ → List rules.Outline → Type 0) (w p end : ℕ) (s : List ℕ) (n : ℕ) (t : List ℕ) (m k : ℕ) : Type 0 where
@@ -111,7 +105,7 @@ module _ {job : Job} {start : ℕ} {c : List ℕ} {Q : ℕ → List rules.Outlin
 
   -- behind the first that is too large all are
   gone-stop : (x most : ℕ) → most < x + sizeIn s w (namedIn s w k) → OfClass s p (λ q. most < x + sizeIn s w q → Q q (outlinesIn job t m)) → Came job start c (λ l. OfClass s p (λ q. Q q l)) s n t m
-  gone-stop x most h f = came-with (g .came) (row-whole (g .class .orders w (g .two)) (λ q. Q q (outlinesIn job t m)) (λ j a b. each j a b (decLt j k)))
+  gone-stop x most h f = came-with job (g .came) (row-whole (g .class .orders w (g .two)) (λ q. Q q (outlinesIn job t m)) (λ j a b. each j a b (decLt j k)))
     where
       each : (j : ℕ) → p ≤ j → j < linkAt s p endLink → Dec (j < k) → Q (namedIn s w j) (outlinesIn job t m)
       each j a b (yes y) = g .came .grown .has j y a
@@ -120,7 +114,7 @@ module _ {job : Job} {start : ℕ} {c : List ℕ} {Q : ℕ → List rules.Outlin
           f (namedIn s w j) (r .0) (r .1) (row-stops (g .class .orders w (g .two)) k x most (g .low) h j (omega arith) b)
 
   gone-end : end ≤ k → Came job start c (λ l. OfClass s p (λ q. Q q l)) s n t m
-  gone-end h = came-with (g .came) (row-whole (g .class .orders w (g .two)) (λ q. Q q (outlinesIn job t m)) (λ j a b. g .came .grown .has j (omega (arith, g .ends)) a))
+  gone-end h = came-with job (g .came) (row-whole (g .class .orders w (g .two)) (λ q. Q q (outlinesIn job t m)) (λ j a b. g .came .grown .has j (omega (arith, g .ends)) a))
 
 -- record i is joined with those of class b before place k
 pub record RowGone (job : Job) (start : ℕ) (way : code.Way) (w side end size i b : ℕ) (s : List ℕ) (n : ℕ) (t : List ℕ) (m k : ℕ) : Type 0 where
@@ -141,7 +135,7 @@ module _ {job : Job} {start : ℕ} {way : code.Way} {w side end size i b : ℕ} 
     row-pair : pairOf job t i q ≡ pairOf job s i b
     row-pair =
         let y = gone-among (g .gone) q more e in
-        pair-stays (g .asked .growing .begins) (g .gone .came .kept) job i q (g .asked .one) (y .before) ∙ ap (rules.plus (countsAt (job .count) s i)) (g .asked .class .same q (y .low) (omega (arith, y .high, g .gone .ends)))
+        pair-stays (g .asked .growing .begins) (g .gone .came .kept) job (g .asked .growing .directory) i q (g .asked .one) (y .before) ∙ ap (rules.plus (countsAt (job .count) s i)) (g .asked .class .same q (y .low) (omega (arith, y .high, g .gone .ends)))
 
     pub row-pairable : Pairable job t start m i q
     row-pairable =
@@ -180,6 +174,10 @@ pub record RowsGone (job : Job) (start : ℕ) (way : code.Way) (w side end least
   pub smallest : least ≡ sizeIn s w (namedIn s w b)
   pub gone : Gone job start (pairOf job s a b) (λ i l. RowWith job (wayOf way) s i b l) w a end s n t m k
 
+-- the smallest of class b is in the arena
+pub rows-smallest : {job : Job} {start a b : ℕ} {s : List ℕ} {n : ℕ} → Rowsable job s start n a b → (w : ℕ) → w < 2 → namedIn s w b < roomOf (length s)
+rows-smallest {b = b} z w two = omega (arith, z .class .orders w two .within b (omega arith) (z .class .some) .1, z .class .ends, z .growing .directory .room)
+
 pub rows-none : {job : Job} {start : ℕ} (way : code.Way) {w side end least a b : ℕ} {s : List ℕ} {n : ℕ} → Rowsable job s start n a b → w ≡ numberOf way → side ≡ sideOf job way → end ≡ linkAt s a endLink → least ≡ sizeIn s w (namedIn s w b) → RowsGone job start way w side end least a b s n s n a
 rows-none way z nu si en le = record { asked = z; number = nu; sheet = si; smallest = le; gone = gone-none (z .first) (two-ways way nu) en (z .ready .held) (z .growing) }
 
@@ -194,7 +192,7 @@ module _ {job : Job} {start : ℕ} {way : code.Way} {w side end least a b : ℕ}
     rows-pair : pairOf job t i b ≡ pairOf job s a b
     rows-pair =
         let y = gone-among (g .gone) i more e in
-        pair-stays (g .asked .growing .begins) (g .gone .came .kept) job i b (y .before) b-before ∙ ap (λ v. rules.plus v (countsAt (job .count) s b)) (g .asked .first .same i (y .low) (omega (arith, y .high, g .gone .ends)))
+        pair-stays (g .asked .growing .begins) (g .gone .came .kept) job (g .asked .growing .directory) i b (y .before) b-before ∙ ap (λ v. rules.plus v (countsAt (job .count) s b)) (g .asked .first .same i (y .low) (omega (arith, y .high, g .gone .ends)))
 
     pub rows-rowable : Rowable job t start m i b
     rows-rowable = record {
@@ -214,7 +212,7 @@ module _ {job : Job} {start : ℕ} {way : code.Way} {w side end least a b : ℕ}
           sheet = g .sheet;
           smallest = g .smallest;
           gone = gone-next (g .gone) (λ r y l d o f q lo hi. join-stays job (wayOf way) r q l d (omega arith) (omega arith) (f q lo hi)) i more (gone-among (g .gone) i more e .is)
-              (came-with (subst (λ c. Came job start c (RowWith job (wayOf way) t i b) t m u v) rows-pair h) (λ q lo hi. h .grown .has q lo (omega arith)));
+              (came-with job (subst (λ c. Came job start c (RowWith job (wayOf way) t i b) t m u v) rows-pair h) (λ q lo hi. h .grown .has q lo (omega arith)));
         }
 
     -- with the least of class b this record is too large: so are all behind it, with each of class b

@@ -10,7 +10,7 @@ ghost use mathlib.Core.Path.{_≡_};
 ghost use Rattle.outline.specs.Stands.{outlineOf, wayOf};
 ghost use Rattle.outlines.specs.Listing.{Told, Holds, OutlineIn, JoinIn};
 ghost use Rattle.growing.specs.Growing.{Absent, Comes, classOf, Growable, pairOf, Pairable};
-ghost use Rattle.growing.specs.Rows.{numberOf, sideOf, Rowable, RowWith};
+ghost use Rattle.growing.specs.Rows.{numberOf, sideOf, Rowable, RowWith, Rowsable, RowsWith};
 
 // The outline is one of the first n records', of which none before `start` has its counts.
 fn holds_from(arena: &[u8], start: usize, n: usize, o: Outline, types: usize) -> bool
@@ -123,6 +123,46 @@ pub fn add_row(
             return Listed::Complete(n);
         }
         match add_join(job, arena, start, n, i, q, way) {
+            Listed::Full => {
+                return Listed::Full;
+            }
+            Listed::Complete(m) => {
+                n = m;
+            }
+        }
+    }
+    Listed::Complete(n)
+}
+
+// Adds the joins that fit of all records of class a with all records of class b, whose counts add up to the class's.
+// The records of a come in order too: once one is too large with the smallest of b, so are all behind it.
+pub fn add_rows(
+    job: Job,
+    arena: &mut [u8],
+    start: usize,
+    first: usize,
+    a: usize,
+    b: usize,
+    way: Way,
+) -> Listed
+    requires { ⌜ Rowsable job (now arena) start first a b ⌝ }
+    ensures { λ r. ⌜ Comes job start (pairOf job (now (arena .entry)) a b) (RowsWith job (wayOf way) (now (arena .entry)) a b) (now (arena .entry)) first (now (arena .exit)) r ⌝ }
+{
+    let w = number_of(way);
+    let side = side_of(job, way);
+    let end = classes::end_of(arena, a);
+    let smallest = arena::link_at(arena, b, w);
+    let least = arena::size_at(arena, smallest, w);
+    let mut n = first;
+    let mut k = a;
+    while k < end {
+        let at = k;
+        k += 1;
+        let i = arena::link_at(arena, at, w);
+        if side < least + arena::size_at(arena, i, w) {
+            return Listed::Complete(n);
+        }
+        match add_row(job, arena, start, n, i, b, way) {
             Listed::Full => {
                 return Listed::Full;
             }

@@ -20,8 +20,8 @@ use Rattle.rules.proofs.Worklist.{index}
 use Rattle.shapes.specs.declared.Job.{Job}
 use Rattle.shapes.specs.Handed.{numbersOf}
 use Rattle.outline.specs.declared.Least.{Least}
-use Rattle.outline.specs.Stands.{JobInRange, jobFor, outlineOf, LeastOf}
-use Rattle.outline.proofs.Laws.{types-count, demand-at, least-job, noPiece}
+use Rattle.outline.specs.Stands.{JobInRange, jobFor, outlineOf, LeastOf, leastBy}
+use Rattle.outline.proofs.Laws.{types-count, demand-at, least-of, noPiece}
 use Rattle.arena.specs.Records.{recordAt, linkAt}
 use Rattle.arena.proofs.Laws.{recs-same}
 use Rattle.classes.specs.Directory.{countsAt, endLink, Begins, Class, Directory}
@@ -32,22 +32,22 @@ use Rattle.outlines.specs.Listing.{recsIn, outlinesIn, outlinesOf, noOutline, B
 use Rattle.outlines.proofs.Lists.{mem-at}
 use Rattle.outlines.proofs.Laws.{length-outlines, outline-at, grown-self, grown-le, grown-then, outlines-stay, too-many-then}
 use Rattle.growing.specs.Growing.{Growing, Came}
-use Rattle.listing.specs.Queue.{outlineAt, keyAt, piecesAt, WholeIn, BelowIn, NextIn, Classed, Turn, Queued, HalfAt, Followed, Follows, leastBy, Sought, PairsBefore, Target, Source, Closed}
+use Rattle.listing.specs.Queue.{outlineAt, keyAt, piecesAt, WholeIn, BelowIn, NextIn, Classed, Turn, Queued, HalfAt, Followed, Follows, Sought, PairsBefore, Target, Source, Closed}
 use Rattle.listing.proofs.Targets.{build-at, key-length}
 
 -- what holds of a list holds where others come behind
-whole-more : {job : Job} {c : List ℕ} (l b : List rules.Outline) → WholeIn job c l → WholeIn job c (l ++ b)
-whole-more l b f o d e = Memᴰ·append-left b (f o d e)
+whole-more : (job : Job) {c : List ℕ} (l b : List rules.Outline) → WholeIn job c l → WholeIn job c (l ++ b)
+whole-more job l b f o d e = Memᴰ·append-left b (f o d e)
 
-next-more : {job : Job} {c : List ℕ} (l b : List rules.Outline) → NextIn job c l → NextIn job c (l ++ b)
-next-more l b f t h n = whole-more l b (f t h n)
+next-more : (job : Job) (c : List ℕ) (l b : List rules.Outline) → NextIn job c l → NextIn job c (l ++ b)
+next-more job c l b f t h n = whole-more job l b (f t h n)
 
 -- the pieces of a record
 some-at : {job : Job} {s : List ℕ} {n : ℕ} → Ready job s n → (i : ℕ) → i < n → 1 ≤ piecesAt job s i
 some-at {job} r i h = some-pieces (job-typed (numbersOf job)) (build-at r i h)
 
 -- the same records, so that the list is the same
-module _ {job : Job} {s t : List ℕ} {n : ℕ} (len : length t ≡ length s) (same : (i : ℕ) → i < n → recordAt t i ≡ recordAt s i) where
+module _ (job : Job) (s t : List ℕ) (n : ℕ) (len : length t ≡ length s) (same : (i : ℕ) → i < n → recordAt t i ≡ recordAt s i) where
   pub recs-stay : recsIn job t n ≡ recsIn job s n
   recs-stay = recs-same (job .count) n t s same
 
@@ -94,7 +94,7 @@ module _ {job : Job} {least : Least} {s : List ℕ} {start half : ℕ} {c : List
           beyond (yes e) = omega (arith, h .half-at .beyond (omega arith), y, ap (piecesAt job s) e)
           beyond (no e) = omega (arith, h .half-at .beyond (omega arith), y, h .classed .rising half i (omega arith) x)
 
-  joins : (w : Way) (a b : rules.Outline) → List·Memᴰ a list → Able (leastBy least) (turned w) a → List·Memᴰ b list → rules.plus (a .counts) (b .counts) ≡ c → 2 * rules.pieces a ≤ sum c → rules.Fits (jobFor job) (join w a b) → List·Memᴰ (join w a b) list
+  joins : (w : Way) (a b : rules.Outline) → List·Memᴰ a list → Able (λ v. leastBy v least) (turned w) a → List·Memᴰ b list → rules.plus (a .counts) (b .counts) ≡ c → 2 * rules.pieces a ≤ sum c → rules.Fits (jobFor job) (join w a b) → List·Memᴰ (join w a b) list
   joins w a b ma able mb e two fit = go (index noOutline ma) (index noOutline mb)
     where
       go : (i : ℕ) × (i < length list) × (getD list i noOutline ≡ a) → (q : ℕ) × (q < length list) × (getD list q noOutline ≡ b) → List·Memᴰ (join w a b) list
@@ -110,17 +110,17 @@ module _ {job : Job} {least : Least} {s : List ℕ} {start half : ℕ} {c : List
           let si : i < start = part-old i hi (omega (arith, p, some-at ready q hq)) in
           let sq : q < start = part-old q hq (omega (arith, p, some-at ready i hi)) in
           let half-i : i < half = part-half i si (omega (arith, two, ap sum ki, ap sum (old-key i si))) in
-          let able-i = subst (Able (leastBy least) (turned w)) (sym oi ∙ ap (λ r. outlineOf (job .count) (r .outline)) (g .kept .records i si)) able in
+          let able-i = subst (Able (λ v. leastBy v least) (turned w)) (sym oi ∙ ap (λ r. outlineOf (job .count) (r .outline)) (g .kept .records i si)) able in
           let pair = ap₂ rules.plus (sym (old-key i si) ∙ ki) (sym (old-key q sq) ∙ kq) ∙ e in
           let j = ap₂ (join w) ei eq in
           Memᴰ·cast (sym j) (g .grown .has i half-i w q sq pair able-i (subst (rules.Fits (jobFor job)) (sym j) fit))
 
   whole-list : WholeIn job c list
-  whole-list = whole-in (job-typed (numbersOf job)) (leastBy least) (least-job job (h .classed .ready .range) least (h .least-of)) list (g .grown .held .sound .only) c (h .two)
+  whole-list = whole-in (job-typed (numbersOf job)) (λ v. leastBy v least) (λ w. least-of job (h .classed .ready .range) w least (h .least-of)) list (g .grown .held .sound .only) c (h .two)
       (λ o d x. subst (List·Memᴰ o) (sym grows) (Memᴰ·append-left (outlinesOf (g .grown .behind)) (h .below o d x))) joins
 
   same : recsIn job u n ≡ recsIn job t n
-  same = recs-stay {job = job} {n = n} (k .same-length) (λ i _. k .records i)
+  same = recs-stay job t u n (k .same-length) (λ i _. k .records i)
 
   list-is : outlinesIn job u n ≡ before ++ outlinesOf (g .grown .behind)
   list-is = ap outlinesOf same ∙ grows
@@ -153,10 +153,10 @@ module _ {job : Job} {least : Least} {s : List ℕ} {start half : ℕ} {c : List
   }
     where
       held : Held job u n
-      held = held-stays {job = job} {n = n} (k .same-length) (λ i _. k .records i) (g .grown .held)
+      held = held-stays job t u n (k .same-length) (λ i _. k .records i) (g .grown .held)
 
       each : (q : ℕ) → q < n → Dec (q < start) → WholeIn job (keyAt job u q) (outlinesIn job u n)
-      each q x (yes y) = subst (λ v. WholeIn job v (outlinesIn job u n)) (sym (kept-key q y)) (subst (WholeIn job (keyAt job s q)) (sym list-is) (whole-more {job = job} before (outlinesOf (g .grown .behind)) (h .classed .whole q y)))
+      each q x (yes y) = subst (λ v. WholeIn job v (outlinesIn job u n)) (sym (kept-key q y)) (subst (WholeIn job (keyAt job s q)) (sym list-is) (whole-more job before (outlinesOf (g .grown .behind)) (h .classed .whole q y)))
       each q x (no y) = subst (λ v. WholeIn job v (outlinesIn job u n)) (sym (new-key q (omega arith) x)) whole-now
 
       order : (p q : ℕ) → p < q → q < n → Dec (p < start) → Dec (q < start) → piecesAt job u p ≤ piecesAt job u q

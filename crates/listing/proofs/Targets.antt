@@ -21,8 +21,8 @@ use Rattle.shapes.specs.declared.Job.{Job}
 use Rattle.outline.specs.declared.Least.{Least}
 use Rattle.outline.specs.declared.Way as code
 use Rattle.outline.specs.declared.Way.the-variants.{Beside, Above}
-use Rattle.outline.specs.Stands.{jobFor, outlineOf, wayOf, LeastOf}
-use Rattle.outline.proofs.Laws.{types-count, least-job}
+use Rattle.outline.specs.Stands.{jobFor, outlineOf, wayOf, LeastOf, leastBy}
+use Rattle.outline.proofs.Laws.{types-count, least-of}
 use Rattle.arena.specs.Records.{recordAt, linkAt}
 use Rattle.classes.specs.Orders.{sizeIn, namedIn}
 use Rattle.classes.specs.Directory.{countsAt, endLink, Begins, Class, Directory, Kept}
@@ -30,11 +30,13 @@ use Rattle.classes.proofs.Laws.{class-at, class-kept, next-begins, first-least,
 use Rattle.outlines.specs.Listing.{outlinesIn, noOutline, Building, Held, Ready, JoinIn}
 use Rattle.outlines.proofs.Lists.{mem-at}
 use Rattle.outlines.proofs.Laws.{length-outlines, outline-at, grown-le}
-use Rattle.growing.specs.Growing.{Growing, Came, pairOf}
+use Rattle.outlines.specs.declared.Listed.{Listed}
+use Rattle.outlines.specs.declared.Listed.the-variants.{Complete, Full}
+use Rattle.growing.specs.Growing.{Growing, Came, Comes, pairOf}
 use Rattle.growing.specs.Rows.{numberOf, sideOf, OfClass, RowsWith, Rowsable}
-use Rattle.growing.proofs.Laws.{came-self, came-then}
-use Rattle.growing.proofs.Rows.{came-with, join-stays, two-ways}
-use Rattle.listing.specs.Queue.{outlineAt, keyAt, leastBy, Idle, Standing, WaysWith, PairsOf, Halving, ClassPairs, Turn, Sought, PairsBefore}
+use Rattle.growing.proofs.Laws.{came-self, came-then, comes-then, came-with}
+use Rattle.growing.proofs.Rows.{join-stays, two-ways}
+use Rattle.listing.specs.Queue.{outlineAt, keyAt, Idle, Standing, WaysWith, PairsOf, Halving, ClassPairs, Turn, Sought, PairsBefore}
 
 bool-cases : (b : Bool) → (b ≡ true) ⊎ (b ≡ false)
 bool-cases true = inl refl
@@ -51,17 +53,17 @@ side-way job Above = refl
 
 module _ {job : Job} {least : Least} {s : List ℕ} {a : ℕ} (st : Standing job least s a) (way : code.Way) where
   -- behind the smallest of the class there is no room for a piece
-  pub idle-small : (y x : ℕ) → y ≡ namedIn s (numberOf way) a → x ≡ sizeIn s (numberOf way) y → sideOf job way < x + leastBy least (wayOf way) → Idle job least s a (wayOf way)
+  pub idle-small : (y x : ℕ) → y ≡ namedIn s (numberOf way) a → x ≡ sizeIn s (numberOf way) y → sideOf job way < x + leastBy (wayOf way) least → Idle job least s a (wayOf way)
   idle-small y x ey ex h i lo hi able b build fits =
       let o = st .class .orders (numberOf way) (two-ways way refl) in
-      no-room (least-job job (st .range) least (st .least-of) (wayOf way)) (outlineAt job s i) build
+      no-room (least-of job (st .range) (wayOf way) least (st .least-of)) (outlineAt job s i) build
       (omega (arith, h, side-way job way, size-way job s i way, first-least o i lo hi, ex, ap (sizeIn s (numberOf way)) ey)) fits
 
   -- the largest of the class in the other way is smaller than two pieces
-  pub idle-thin : (v : code.Way) → wayOf v ≡ turned (wayOf way) → (p last y x : ℕ) → p ≡ sum (keyAt job s a) → (p ≡ 1 → ⊥) → suc last ≡ linkAt s a endLink → y ≡ namedIn s (numberOf v) last → x ≡ sizeIn s (numberOf v) y → x < 2 * leastBy least (wayOf v) → Idle job least s a (wayOf way)
-  idle-thin v ev p last y x ep np el ey ex h i lo hi able b build fits = go (subst (λ w. Able (leastBy least) w (outlineAt job s i)) (sym ev) able)
+  pub idle-thin : (v : code.Way) → wayOf v ≡ turned (wayOf way) → (p last y x : ℕ) → p ≡ sum (keyAt job s a) → (p ≡ 1 → ⊥) → suc last ≡ linkAt s a endLink → y ≡ namedIn s (numberOf v) last → x ≡ sizeIn s (numberOf v) y → x < 2 * leastBy (wayOf v) least → Idle job least s a (wayOf way)
+  idle-thin v ev p last y x ep np el ey ex h i lo hi able b build fits = go (subst (λ w. Able (λ v. leastBy v least) w (outlineAt job s i)) (sym ev) able)
     where
-      go : Able (leastBy least) (wayOf v) (outlineAt job s i) → ⊥
+      go : Able (λ v. leastBy v least) (wayOf v) (outlineAt job s i) → ⊥
       go (inl e) = np (ep ∙ ap sum (sym (st .class .same i lo hi)) ∙ e)
       go (inr e) =
           let o = st .class .orders (numberOf v) (two-ways v refl) in
@@ -128,7 +130,7 @@ module _ {job : Job} {least : Least} {s : List ℕ} {start n a : ℕ} {c : List 
         outline-at (job .count) t m i (omega (arith, g .growing .begins)) ∙ ap (λ u. outlineOf (job .count) (u .outline)) (g .kept .records i (omega arith))
 
     -- nothing joins, so that there is nothing to be there
-    idle-in : (w : Way) → Idle job least s a w → (i : ℕ) → a ≤ i → i < linkAt s a endLink → (q : ℕ) → q < start → Able (leastBy least) (turned w) (outlineAt job s i) → JoinIn job w i q (outlinesIn job t m)
+    idle-in : (w : Way) → Idle job least s a w → (i : ℕ) → a ≤ i → i < linkAt s a endLink → (q : ℕ) → q < start → Able (λ v. leastBy v least) (turned w) (outlineAt job s i) → JoinIn job w i q (outlinesIn job t m)
     idle-in w f i lo hi q x able k =
         let be = h .growing .begins in
         let ei = outline-stays i (omega (arith, h .class .ends)) in
@@ -145,9 +147,9 @@ module _ {job : Job} {least : Least} {s : List ℕ} {start n a : ℕ} {c : List 
 
   -- in neither way
   pub none-join : Idle job least s a along → Idle job least s a across → Came job start c (ClassPairs job least s start c a) s n s n
-  none-join f g = let k = came-self job {P = λ l. ⊤} (h .ready .held) (h .growing) tt in came-with k (λ i lo hi w q x e able. by w i lo hi q x able k)
+  none-join f g = let k = came-self job {P = λ l. Unit {0}} (h .ready .held) (h .growing) tt in came-with job k (λ i lo hi w q x e able. by w i lo hi q x able k)
     where
-      by : (w : Way) (i : ℕ) → a ≤ i → i < linkAt s a endLink → (q : ℕ) → q < start → Able (leastBy least) (turned w) (outlineAt job s i) → Came job start c (λ l. ⊤) s n s n → JoinIn job w i q (outlinesIn job s n)
+      by : (w : Way) (i : ℕ) → a ≤ i → i < linkAt s a endLink → (q : ℕ) → q < start → Able (λ v. leastBy v least) (turned w) (outlineAt job s i) → Came job start c (λ l. Unit {0}) s n s n → JoinIn job w i q (outlinesIn job s n)
       by along i lo hi q x able k = idle-in k along f i lo hi q x able
       by across i lo hi q x able k = idle-in k across g i lo hi q x able
 
@@ -164,9 +166,9 @@ module _ {job : Job} {least : Least} {s : List ℕ} {start n a : ℕ} {c : List 
       rest-rows = record { ready = h .ready; first = h .class; class = k; growing = subst (Growing (job .count) s start n) (sym whole-pair) (h .growing) }
 
       rest-joins : (beside above : Bool) → (beside ≡ false → Idle job least s a along) → (above ≡ false → Idle job least s a across) → {t : List ℕ} {m : ℕ} → Came job start c (WaysWith job beside above s a b) s n t m → Came job start c (ClassPairs job least s start c a) s n t m
-      rest-joins beside above f g {t} {m} w = came-with w (λ i lo hi v q x y able. by v i lo hi q x y able (bool-cases beside) (bool-cases above))
+      rest-joins beside above f g {t} {m} w = came-with job w (λ i lo hi v q x y able. by v i lo hi q x y able (bool-cases beside) (bool-cases above))
         where
-          by : (v : Way) (i : ℕ) → a ≤ i → i < linkAt s a endLink → (q : ℕ) → q < start → pairOf job s i q ≡ c → Able (leastBy least) (turned v) (outlineAt job s i) → (beside ≡ true) ⊎ (beside ≡ false) → (above ≡ true) ⊎ (above ≡ false) → JoinIn job v i q (outlinesIn job t m)
+          by : (v : Way) (i : ℕ) → a ≤ i → i < linkAt s a endLink → (q : ℕ) → q < start → pairOf job s i q ≡ c → Able (λ v. leastBy v least) (turned v) (outlineAt job s i) → (beside ≡ true) ⊎ (beside ≡ false) → (above ≡ true) ⊎ (above ≡ false) → JoinIn job v i q (outlinesIn job t m)
           by along i lo hi q x y able (inl z) _ = let r = k .whole q x (rest-of rest e p i q lo hi x y ∙ sym is) in w .grown .has .0 z i lo hi q (r .0) (r .1)
           by along i lo hi q x y able (inr z) _ = idle-in w along (f z) i lo hi q x able
           by across i lo hi q x y able _ (inl z) = let r = k .whole q x (rest-of rest e p i q lo hi x y ∙ sym is) in w .grown .has .1 z i lo hi q (r .0) (r .1)
@@ -186,7 +188,7 @@ module _ {job : Job} {least : Least} {s : List ℕ} {start half : ℕ} {c : List
   walk-start = record { came = came-self job (h .ready .held) (h .growing) (λ i x. absurd (omega arith)); begins = λ x q y. absurd (omega arith) }
 
   pub walk-end : {t : List ℕ} {n p : ℕ} → Walking job least s start c t n p → half ≤ p → Came job start c (PairsBefore job least s start c half) s start t n
-  walk-end w x = came-with (w .came) (λ i y. w .came .grown .has i (omega arith))
+  walk-end w x = came-with job (w .came) (λ i y. w .came .grown .has i (omega arith))
 
   module _ {t : List ℕ} {n a : ℕ} (w : Walking job least s start c t n a) (x : a < half) where
     here : a < start
@@ -212,11 +214,11 @@ module _ {job : Job} {least : Least} {s : List ℕ} {start half : ℕ} {c : List
 
     -- its counts are not within: no pair adds up
     pub walk-past : atMost (keyAt job t a) c ≡ false → Walking job least s start c t n (linkAt t a endLink)
-    walk-past f = record { came = came-with (w .came) (λ i y. by i y (decLt i a)); begins = next-turn }
+    walk-past f = record { came = came-with job (w .came) (λ i y. by i y (decLt i a)); begins = next-turn }
       where
         by : (i : ℕ) → i < linkAt t a endLink → Dec (i < a) → PairsOf job least s start c i (outlinesIn job t n)
         by i y (yes z) = w .came .grown .has i z
-        by i y (no z) v q u e able =
+        by i y (no z) = λ v q u e able.
             let k = class .same i (omega arith) (omega (arith, same-end)) in
             let la = key-length (h .ready) a here in
             let o = at-most-plus (keyAt job s a) (keyAt job s q) (la ∙ sym (key-length (h .ready) q u)) in
@@ -238,9 +240,9 @@ module _ {job : Job} {least : Least} {s : List ℕ} {start half : ℕ} {c : List
     }
       where
         by : (l d : List rules.Outline) → length l ≡ n → PairsBefore job least s start c a l → ClassPairs job least t start c a (l ++ d) → (i : ℕ) → i < linkAt t a endLink → Dec (i < a) → PairsOf job least s start c i (l ++ d)
-        by l d e f k i y (yes z) v q u p able =
+        by l d e f k i y (yes z) = λ v q u p able.
             let be = w .came .growing .begins in
             join-stays job v i q l d (omega (arith, here)) (omega arith) (f i z v q u p able)
-        by l d e f k i y (no z) v q u p able =
+        by l d e f k i y (no z) = λ v q u p able.
             let i-in : i < start = omega (arith, same-end, class .ends) in
-            k i (omega arith) y v q u (ap₂ rules.plus (key-kept i i-in) (key-kept q u) ∙ p) (subst (Able (leastBy least) (turned v)) (ap (λ r. outlineOf (job .count) (r .outline)) (sym (record-stays i i-in))) able)
+            k i (omega arith) y v q u (ap₂ rules.plus (key-kept i i-in) (key-kept q u) ∙ p) (subst (Able (λ v. leastBy v least) (turned v)) (ap (λ r. outlineOf (job .count) (r .outline)) (sym (record-stays i i-in))) able)

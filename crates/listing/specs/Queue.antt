@@ -14,7 +14,7 @@ use Rattle.rules.proofs.Halves.{In, Whole, Able}
 use Rattle.rules.proofs.Outlines.{atMost}
 use Rattle.shapes.specs.declared.Job.{Job}
 use Rattle.outline.specs.declared.Least.{Least}
-use Rattle.outline.specs.Stands.{JobInRange, jobFor, outlineOf, LeastOf}
+use Rattle.outline.specs.Stands.{JobInRange, jobFor, outlineOf, LeastOf, leastBy}
 use Rattle.arena.specs.Records.{recordAt}
 use Rattle.classes.specs.Directory.{countsAt, Begins, Class, Directory}
 use Rattle.outlines.specs.declared.Listed.{Listed}
@@ -81,14 +81,9 @@ abbrev pub Follows : (job : Job) (P : List rules.Outline → Type 0) (k : ℕ) (
 Follows job P k s n t (Complete m) = Followed job P k s n t m
 Follows job P k s n t Full = TooMany job s
 
--- the least sizes, by way
-abbrev pub leastBy : Least → Way → ℕ
-leastBy least along = least .length
-leastBy least across = least .width
-
 -- nothing of class a joins in this way with any build, or it need not be tried as a first half
 abbrev pub Idle : Job → Least → List ℕ → ℕ → Way → Type 0
-Idle job least s a w = OfClass s a (λ i. Able (leastBy least) (turned w) (outlineAt job s i) → (b : rules.Outline) → Building job b → rules.Fits (jobFor job) (join w (outlineAt job s i) b) → ⊥)
+Idle job least s a w = OfClass s a (λ i. Able (λ v. leastBy v least) (turned w) (outlineAt job s i) → (b : rules.Outline) → Building job b → rules.Fits (jobFor job) (join w (outlineAt job s i) b) → ⊥)
 
 -- a class of the arena, wherever its records end
 pub record Standing (job : Job) (least : Least) (s : List ℕ) (a : ℕ) : Type 0 where
@@ -104,7 +99,7 @@ WaysWith job beside above s a b l = (beside ≡ true → RowsWith job along s a 
 
 -- the joins, in both ways, of record i as a first half with all records before start that it adds up to counts c with
 abbrev pub PairsOf : Job → Least → List ℕ → ℕ → List ℕ → ℕ → List rules.Outline → Type 0
-PairsOf job least s start c i l = (w : Way) (q : ℕ) → q < start → pairOf job s i q ≡ c → Able (leastBy least) (turned w) (outlineAt job s i) → JoinIn job w i q l
+PairsOf job least s start c i l = (w : Way) (q : ℕ) → q < start → pairOf job s i q ≡ c → Able (λ v. leastBy v least) (turned w) (outlineAt job s i) → JoinIn job w i q l
 
 -- class a, within the counts of the class that grows
 pub record Halving (job : Job) (least : Least) (s : List ℕ) (start n a : ℕ) (c : List ℕ) : Type 0 where

@@ -18,12 +18,12 @@ ghost use Rattle.rules.specs.Bag.{sum};
 ghost use Rattle.rules.specs.Limits.{typesMost};
 ghost use Rattle.rules.proofs.Classes.{turned, oneMore};
 ghost use Rattle.rules.specs.Planner.{roomOf};
-ghost use Rattle.outline.specs.Stands.{JobInRange, wayOf, LeastOf};
+ghost use Rattle.outline.specs.Stands.{JobInRange, wayOf, LeastOf, leastBy};
 ghost use Rattle.classes.specs.Directory.{Directory};
 ghost use Rattle.outlines.specs.Listing.{outlinesIn, StartsIn, SingleIn, Lists};
 ghost use Rattle.growing.specs.Growing.{Growing, Comes, pairOf};
 ghost use Rattle.growing.specs.Rows.{numberOf, Rowsable, RowsWith};
-ghost use Rattle.listing.specs.Queue.{keyAt, piecesAt, WholeIn, NextIn, Turn, HalfAt, Queued, Follows, leastBy, Idle, Standing, WaysWith, Halving, ClassPairs, Sought, PairsBefore, Target, Source, Singles, SinglesTo, SinglesGrow, Closed};
+ghost use Rattle.listing.specs.Queue.{keyAt, piecesAt, WholeIn, NextIn, Turn, HalfAt, Queued, Follows, Idle, Standing, WaysWith, Halving, ClassPairs, Sought, PairsBefore, Target, Source, Singles, SinglesTo, SinglesGrow, Closed};
 
 // From a class on, the first with more than half of `most` pieces.
 fn half_of(arena: &[u8], from: usize, n: usize, most: usize, types: usize) -> usize
@@ -42,7 +42,7 @@ fn half_of(arena: &[u8], from: usize, n: usize, most: usize, types: usize) -> us
 
 // The least size of a piece in a way.
 fn least_of(least: Least, way: Way) -> u64
-    ensures { λ r. ⌜ r ≡ leastBy least (wayOf way) ⌝ }
+    ensures { λ r. ⌜ r ≡ leastBy (wayOf way) least ⌝ }
 {
     match way {
         Way::Beside => least.length,
@@ -63,7 +63,7 @@ fn other(way: Way) -> Way
 // or none of it ends in a join in the other way, which then is another's first half.
 fn can_join(job: Job, arena: &[u8], a: usize, least: Least, way: Way) -> bool
     requires { ⌜ Standing job least (now arena) a ⌝ }
-    ensures { λ r. ⌜ r ≡ false → Idle job least (now (arena .entry)) a (wayOf way) ⌝ }
+    ensures { λ r. ⌜ (r ≡ false → Idle job least (now (arena .entry)) a (wayOf way)) ⌝ }
 {
     let w = growing::number_of(way);
     let smallest = arena::size_at(arena, arena::link_at(arena, a, w), w);
@@ -368,6 +368,6 @@ pub fn list_outlines(job: Job, arena: &mut [u8]) -> Listed
     arena::zero(arena);
     match list_singles(job, arena) {
         Listed::Full => Listed::Full,
-        Listed::Complete(n) => list_joins(job, arena, n, outline::least(job)),
+        Listed::Complete(n) => list_joins(job, arena, n, outline::least_sizes(job)),
     }
 }

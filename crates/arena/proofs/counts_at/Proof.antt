@@ -1,12 +1,11 @@
 -- `arena::counts_at` meets its contract. Assumes nothing.
-use Prim.Native.Nat.{_+_, _*_, _-_}
-use native.Mathlib.Omega.{arith}
-use mathlib.Core.Path.{_≡_, _∙_}
-use Rattle.arena.specs.Bytes.{chunk, decode}
+use mathlib.Core.Path.{ap, _∙_}
+use lib.ListN.{take}
+use Rattle.rules.proofs.Outlines.{sameList}
+use Rattle.arena.proofs.Laws.{counts-in}
 use borrow.Author.Needs.{needs}
 use Rattle.arena.proofs.counts_at.Statement.{statement}
 use Rattle.arena.proofs.counts_at.Tie as tie
-use Rattle.rules.specs.Limits.{recordBytes}
 
 mul-at : tie.Need-mul-at
 mul-at c = search needs
@@ -27,11 +26,9 @@ same-requires : tie.Need-same-counts-requires
 same-requires c κs = search needs
 
 returns : tie.Need-returns
-unfolding chunk decode
 returns c =
-    let i = c .before .before .before .args .i in
-    let e : i * recordBytes + recordBytes - i * recordBytes ≡ recordBytes = omega arith in
-    c .same-counts .ensures ∙ rw e
+    let g = c .before .before .before .args in
+    c .same-counts .ensures ∙ ap (λ l. sameList (take (g .types) (g .counts)) (take (g .types) l)) (counts-in (g .arena .now) (g .i))
 
 pub counts-at-spec : {M : Type 1} → statement M
 counts-at-spec =

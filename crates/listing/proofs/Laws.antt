@@ -5,7 +5,8 @@ use mathlib.Core.List.{List, _++_, List·Memᴰ, Memᴰ·append-left, Memᴰ·ca
 use Prim.Native.Nat.{ℕ, zero, suc, _+_, _*_, _≤_, _<_}
 use native.Mathlib.Omega.{arith}
 use native.Mathlib.Decide.{ℕ-discrete, decLt}
-use lib.ListN.{length, getD, take}
+use lib.ListN.{length, getD, take, List·getD-eq-default}
+use lib.Seq.{getD-take}
 use Rattle.rules.specs.Bag.{sum, All}
 use Rattle.rules.specs.Box.{Way, along, across}
 use Rattle.rules.specs.Job as rules
@@ -150,6 +151,7 @@ module _ {job : Job} {least : Least} {s : List ℕ} {start half : ℕ} {c : List
     same-length = k .same-length ∙ g .kept .same-length;
     records = λ i x. k .records i ∙ g .kept .records i x;
     new = λ q x y. ap sum (new-key q x y);
+    turn = λ x q y e. g .growing .before q y (sym (key-now q) ∙ e ∙ new-key start (omega arith) x);
   }
     where
       held : Held job u n
@@ -167,11 +169,15 @@ module _ {job : Job} {least : Least} {s : List ℕ} {start half : ℕ} {c : List
 
 -- nothing comes
 pub followed-self : {job : Job} {P : List rules.Outline → Type 0} {k : ℕ} {s : List ℕ} {n : ℕ} → Classed job s n → P (outlinesIn job s n) → Followed job P k s n s n
-followed-self {job} {s = s} {n = n} c p = record { grown = grown-self job s n (c .ready .held) p; classed = c; same-length = refl; records = λ i h. refl; new = λ q x y. absurd (omega arith) }
+followed-self {job} {s = s} {n = n} c p = record { grown = grown-self job s n (c .ready .held) p; classed = c; same-length = refl; records = λ i h. refl; new = λ q x y. absurd (omega arith); turn = λ x. absurd (omega arith) }
+
+-- the same step ends with another fact
+pub followed-with : {job : Job} {P R : List rules.Outline → Type 0} {k : ℕ} {s t : List ℕ} {n m : ℕ} → Followed job P k s n t m → R (outlinesIn job t m) → Followed job R k s n t m
+followed-with g r = record { grown = record { held = g .grown .held; behind = g .grown .behind; stay = g .grown .stay; has = r }; classed = g .classed; same-length = g .same-length; records = g .records; new = g .new; turn = g .turn }
 
 -- one step behind another
 pub followed-then : {job : Job} {P Q R : List rules.Outline → Type 0} {k : ℕ} {s t u : List ℕ} {n m r : ℕ} → ((l b : List rules.Outline) → length l ≡ m → P l → Q (l ++ b) → R (l ++ b)) → Followed job P k s n t m → Followed job Q k t m u r → Followed job R k s n u r
-followed-then {job} {k = k} {u = u} {n = n} {m = m} {r = r} f g h =
+followed-then {job} {k = k} {t = t} {u = u} {n = n} {m = m} {r = r} f g h =
     let le = grown-le job (g .grown) in
     record {
       grown = grown-then job f (g .grown) (h .grown);
@@ -179,8 +185,156 @@ followed-then {job} {k = k} {u = u} {n = n} {m = m} {r = r} f g h =
       same-length = h .same-length ∙ g .same-length;
       records = λ i x. h .records i (omega arith) ∙ g .records i x;
       new = λ q x y. each q x y (decLt q m);
+      turn = λ x. first x (decLt n m);
     }
   where
+    key-in : (q : ℕ) → q < m → keyAt job u q ≡ keyAt job t q
+    key-in q x = ap (λ v. take (job .count) (v .outline .counts)) (h .records q x)
+
+    first : n < r → Dec (n < m) → Begins (job .count) u n
+    first x (yes y) = λ q z e. g .turn y q z (sym (key-in q (omega arith)) ∙ e ∙ key-in n y)
+    first x (no y) = let e : m ≡ n = omega (arith, grown-le job (g .grown)) in subst (Begins (job .count) u) e (h .turn (omega arith))
+
     each : (q : ℕ) → n ≤ q → q < r → Dec (q < m) → piecesAt job u q ≡ k
     each q x y (yes z) = ap (λ v. sum (take (job .count) (v .outline .counts))) (h .records q z) ∙ g .new q x z
     each q x y (no z) = h .new q (omega arith) y
+
+pub follows-then : {job : Job} {P : List rules.Outline → Type 0} (Q R : List rules.Outline → Type 0) {k : ℕ} {s t : List ℕ} (u : List ℕ) {n m : ℕ} → ((l b : List rules.Outline) → length l ≡ m → P l → Q (l ++ b) → R (l ++ b)) → Followed job P k s n t m → (r : Listed) → Follows job Q k t m u r → Follows job R k s n u r
+follows-then Q R u f g (Complete r) h = followed-then f g h
+follows-then {job} Q R {s = s} {t = t} u f g Full h = too-many-then job s t (g .same-length) h
+
+-- counts that no record has: a class of them can grow behind
+pub sought : {job : Job} {least : Least} {s : List ℕ} {n half : ℕ} {c : List ℕ} → Target job least s n half c → ((q : ℕ) → q < n → keyAt job s q ≡ c → ⊥) → Sought job least s n half c
+sought h f = record {
+  least-of = h .least-of;
+  ready = h .classed .ready;
+  growing = record {
+    begins = omega arith;
+    directory = h .classed .directory;
+    before = f;
+    counts = λ q x y. absurd (omega arith);
+    orders = λ w l. record { within = λ k x y. absurd (omega arith); each = λ q x y. absurd (omega arith); rising = λ i k x y z. absurd (omega arith) };
+  };
+  turn = h .half-at .turn;
+}
+
+-- a class that is there is whole
+pub target-there : {job : Job} {least : Least} {s : List ℕ} {n half : ℕ} {c : List ℕ} → Target job least s n half c → (p : ℕ) → Class (job .count) s n p → keyAt job s p ≡ c → Followed job (WholeIn job c) (sum c) s n s n
+target-there {job} {s = s} {n = n} h p k e = followed-self (h .classed) (subst (λ v. WholeIn job v (outlinesIn job s n)) e (h .classed .whole p (omega (arith, k .some, k .ends))))
+
+-- one piece more than class p
+module _ {job : Job} {least : Least} {s : List ℕ} {n half p : ℕ} (h : Source job least s n half p) (t : ℕ) (among : t < job .count) where
+  long : length (keyAt job s p) ≡ job .count
+  long = key-length (h .classed .ready) p (h .here)
+
+  pub more-sum : sum (oneMore t (keyAt job s p)) ≡ suc (piecesAt job s p)
+  more-sum = sum-more t (keyAt job s p) (omega (arith, long))
+
+  pub count-in : (x : ℕ) → x ≡ getD (recordAt s p .outline .counts) t 0 → x ≡ getD (keyAt job s p) t 0
+  count-in x e = e ∙ sym (getD-take (job .count) (recordAt s p .outline .counts) t 0 among)
+
+  -- there are as many already as are in demand
+  pub none-more : (d x : ℕ) → d ≡ getD (job .types) t noPiece .demand → x ≡ getD (recordAt s p .outline .counts) t 0 → d ≤ x → (l : List rules.Outline) → WholeIn job (oneMore t (keyAt job s p)) l
+  none-more d x ed ex le l = whole-over l (oneMore t (keyAt job s p)) t
+      (omega (arith, ed, count-in x ex, le, demand-at job (h .classed .ready .range) t among, more-at t (keyAt job s p) (omega (arith, long))))
+
+  pub source-target : Target job least s n half (oneMore t (keyAt job s p))
+  source-target = record {
+    least-of = h .least-of;
+    classed = h .classed;
+    two = omega (arith, more-sum, some-at (h .classed .ready) p (h .here));
+    below = subst (λ k. BelowIn job k (outlinesIn job s n)) (sym more-sum) (h .below);
+    top = λ q x. omega (arith, more-sum, h .top q x);
+    half-at = subst (λ k. HalfAt (job .count) s n k half) (sym more-sum) (h .half-at);
+  }
+
+  pub more-follows : (c : List ℕ) → c ≡ oneMore t (keyAt job s p) → (u : List ℕ) (r : Listed) → Follows job (WholeIn job c) (sum c) s n u r → Follows job (WholeIn job (oneMore t (keyAt job s p))) (suc (piecesAt job s p)) s n u r
+  more-follows c e u r f = subst (λ k. Follows job (WholeIn job (oneMore t (keyAt job s p))) k s n u r) more-sum (subst (λ k. Follows job (WholeIn job k) (sum k) s n u r) e f)
+
+-- classes have come behind: what was half is half
+module _ {job : Job} {P : List rules.Outline → Type 0} {k : ℕ} {s t : List ℕ} {n m : ℕ} (g : Followed job P k s n t m) where
+  grows-by : n ≤ m
+  grows-by = grown-le job (g .grown)
+
+  key-follows : (q : ℕ) → q < n → keyAt job t q ≡ keyAt job s q
+  key-follows q x = ap (λ v. take (job .count) (v .outline .counts)) (g .records q x)
+
+  pub in-follows : (o : rules.Outline) → List·Memᴰ o (outlinesIn job s n) → List·Memᴰ o (outlinesIn job t m)
+  in-follows o x = subst (List·Memᴰ o) (sym (outlines-stay job (g .grown))) (Memᴰ·append-left (outlinesOf (g .grown .behind)) x)
+
+  pub turn-follows : (p : ℕ) → Turn (job .count) s n p → Turn (job .count) t m p
+  turn-follows p h = record { upto = omega (arith, h .upto, grows-by); begins = λ x. go (decLt p n) x }
+    where
+      go : Dec (p < n) → p < m → Begins (job .count) t p
+      go (yes x) y = λ q z e. h .begins x q z (sym (key-follows q (omega arith)) ∙ e ∙ key-follows p x)
+      go (no x) y = let e : n ≡ p = omega (arith, h .upto) in subst (Begins (job .count) t) e (g .turn (omega arith))
+
+  pub half-follows : (half : ℕ) → 1 ≤ k → HalfAt (job .count) s n k half → HalfAt (job .count) t m k half
+  half-follows half one h = record { turn = turn-follows half (h .turn); beyond = λ x. go (decLt half n) x }
+    where
+      go : Dec (half < n) → half < m → k < 2 * piecesAt job t half
+      go (yes x) y = omega (arith, h .beyond x, ap sum (key-follows half x))
+      go (no x) y = omega (arith, g .new half (omega arith) y)
+
+-- the types from `after` on have been followed, and class p has none of them
+pub record Following (job : Job) (least : Least) (s : List ℕ) (n half p : ℕ) (t : List ℕ) (m after : ℕ) : Type 0 where
+  pub upto : after ≤ job .count
+  pub none : (u : ℕ) → after ≤ u → getD (keyAt job s p) u 0 ≡ 0
+  pub followed : Followed job (λ l. (u : ℕ) → after ≤ u → u < job .count → NoneAfter u (keyAt job s p) → WholeIn job (oneMore u (keyAt job s p)) l) (suc (piecesAt job s p)) s n t m
+
+module _ {job : Job} {least : Least} {s : List ℕ} {n half p : ℕ} (h : Source job least s n half p) where
+  pub following-start : Following job least s n half p s n (job .count)
+  following-start = record {
+    upto = omega arith;
+    none = λ u x. List·getD-eq-default (keyAt job s p) 0 (omega (arith, key-length (h .classed .ready) p (h .here)));
+    followed = followed-self (h .classed) (λ u x y. absurd (omega arith));
+  }
+
+  module _ {t : List ℕ} {m after : ℕ} (g : Following job least s n half p t m after) where
+    here-now : keyAt job t p ≡ keyAt job s p
+    here-now = key-follows (g .followed) p (h .here)
+
+    pub following-source : Source job least t m half p
+    following-source =
+        let e = ap sum here-now in
+        let k : suc (piecesAt job s p) ≡ suc (piecesAt job t p) = ap suc (sym e) in
+        record {
+          least-of = h .least-of;
+          classed = g .followed .classed;
+          here = omega (arith, h .here, grows-by (g .followed));
+          below = λ o b x. in-follows (g .followed) o (h .below o b (omega arith));
+          top = λ q x. top q x (decLt q n);
+          half-at = subst (λ v. HalfAt (job .count) t m v half) k (half-follows (g .followed) half (omega arith) (h .half-at));
+        }
+      where
+        top : (q : ℕ) → q < m → Dec (q < n) → piecesAt job t q ≤ suc (piecesAt job t p)
+        top q x (yes y) = omega (arith, h .top q y, ap sum (key-follows (g .followed) q y), ap sum here-now)
+        top q x (no y) = omega (arith, g .followed .new q (omega arith) x, ap sum here-now)
+
+    module _ (at : ℕ) (is : after ≡ suc at) where
+      -- type `at` has been followed too
+      pub following-more : (u : List ℕ) (r : ℕ) → Followed job (WholeIn job (oneMore at (keyAt job t p))) (suc (piecesAt job t p)) t m u r → Followed job (λ l. (v : ℕ) → at ≤ v → v < job .count → NoneAfter v (keyAt job s p) → WholeIn job (oneMore v (keyAt job s p)) l) (suc (piecesAt job s p)) s n u r
+      following-more u r f = followed-then (λ l b e x y v. each l b x y v (ℕ-discrete v at)) (g .followed)
+          (subst (λ c. Followed job (WholeIn job (oneMore at c)) (suc (sum c)) t m u r) here-now f)
+        where
+          each : (l b : List rules.Outline) → ((v : ℕ) → after ≤ v → v < job .count → NoneAfter v (keyAt job s p) → WholeIn job (oneMore v (keyAt job s p)) l) → WholeIn job (oneMore at (keyAt job s p)) (l ++ b) → (v : ℕ) → Dec (v ≡ at) → at ≤ v → v < job .count → NoneAfter v (keyAt job s p) → WholeIn job (oneMore v (keyAt job s p)) (l ++ b)
+          each l b x y v (yes e) lo hi no-one = subst (λ w. WholeIn job (oneMore w (keyAt job s p)) (l ++ b)) (sym e) y
+          each l b x y v (no e) lo hi no-one = whole-more job l b (x v (omega arith) hi no-one)
+
+      -- class p has pieces of this type: no earlier one is its last
+      pub following-stop : {u : List ℕ} {r : ℕ} → Followed job (λ l. (v : ℕ) → at ≤ v → v < job .count → NoneAfter v (keyAt job s p) → WholeIn job (oneMore v (keyAt job s p)) l) (suc (piecesAt job s p)) s n u r → 0 < getD (keyAt job s p) at 0 → Followed job (NextIn job (keyAt job s p)) (suc (piecesAt job s p)) s n u r
+      following-stop {u} {r} f some = followed-with f (λ v hi no-one. each v hi no-one (decLt v at))
+        where
+          each : (v : ℕ) → v < job .count → NoneAfter v (keyAt job s p) → Dec (v < at) → WholeIn job (oneMore v (keyAt job s p)) (outlinesIn job u r)
+          each v hi no-one (yes x) = absurd (omega (arith, some, no-one at x))
+          each v hi no-one (no x) = f .grown .has v (omega arith) hi no-one
+
+      pub following-next : {u : List ℕ} {r : ℕ} → Followed job (λ l. (v : ℕ) → at ≤ v → v < job .count → NoneAfter v (keyAt job s p) → WholeIn job (oneMore v (keyAt job s p)) l) (suc (piecesAt job s p)) s n u r → getD (keyAt job s p) at 0 ≡ 0 → Following job least s n half p u r at
+      following-next f zero-at = record { upto = omega (arith, g .upto); none = λ v x. each v x (ℕ-discrete v at); followed = f }
+        where
+          each : (v : ℕ) → at ≤ v → Dec (v ≡ at) → getD (keyAt job s p) v 0 ≡ 0
+          each v x (yes e) = ap (λ w. getD (keyAt job s p) w 0) e ∙ zero-at
+          each v x (no e) = g .none v (omega arith)
+
+    pub following-end : after ≡ 0 → Followed job (NextIn job (keyAt job s p)) (suc (piecesAt job s p)) s n t m
+    following-end e = followed-with (g .followed) (λ v hi no-one. g .followed .grown .has v (omega arith) hi no-one)

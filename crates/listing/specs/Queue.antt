@@ -76,6 +76,7 @@ pub record Followed (job : Job) (P : List rules.Outline → Type 0) (k : ℕ) (s
   pub same-length : length t ≡ length s
   pub records : (i : ℕ) → i < n → recordAt t i ≡ recordAt s i
   pub new : (q : ℕ) → n ≤ q → q < m → piecesAt job t q ≡ k
+  pub turn : n < m → Begins (job .count) t n
 
 abbrev pub Follows : (job : Job) (P : List rules.Outline → Type 0) (k : ℕ) (s : List ℕ) (n : ℕ) (t : List ℕ) → Listed → Type 0
 Follows job P k s n t (Complete m) = Followed job P k s n t m

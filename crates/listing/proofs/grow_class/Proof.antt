@@ -1,72 +1,114 @@
+-- `listing::grow_class` meets its contract. The invariant: all first halves before p have been joined. Assumes nothing.
+use mathlib.Core.Path.{sym, _∙_, subst}
+use Prim.Native.Nat.{_-_}
+use native.Mathlib.Omega.{arith}
+use lib.ListN.{take}
+use Rattle.outlines.proofs.Laws.{too-many-then}
+use Rattle.listing.proofs.Targets.{Walking, walk-start, walk-class, walk-past, walk-halving, walk-next, walk-end}
+use borrow.Author.Needs.{needs}
 use Rattle.listing.proofs.grow_class.Statement.{statement}
 use Rattle.listing.proofs.grow_class.Tie as tie
-use Rattle.listing.proofs.grow_class.Reads as reads
-use Rattle.listing.proofs.grow_class.Lts as lts
-use Rattle.arena.proofs.within_at.Reads as within-at-reads
-use Rattle.classes.proofs.end_of.Reads as end-of-reads
-use Rattle.listing.proofs.add_class.Reads as add-class-reads
 
 abbrev Inv-loop : tie.InvT-loop
-Inv-loop job arena₀ start half counts least types n₀ p₀ arena n p = ?
+Inv-loop job arena₀ start half counts least types n₀ p₀ arena n p = Walking job least arena₀ start (take (job .count) counts) arena n p
 
 abbrev μ-loop : tie.MeasureT-loop
-μ-loop job arena₀ start half counts least types n₀ p₀ arena n p = ?
+μ-loop job arena₀ start half counts least types n₀ p₀ arena n p = half - p
 
--- src/lib.rt:166:5
 loop-holds : tie.Need-loop-holds Inv-loop μ-loop
-loop-holds c = ?
+loop-holds c = walk-start (c .before .pre)
 
--- src/lib.rt:168:9
 end-of-requires : tie.Need-end-of-requires Inv-loop μ-loop
-end-of-requires c κs = ?
+end-of-requires c κs =
+    let il = c .before in
+    let at = il .before in
+    let st = at .before .before in
+    let k = walk-class (st .pre) (at .loop .inv) (il .loop-test .taken) in
+    omega (arith, k .some, k .ends, at .loop .inv .came .growing .directory .room)
 
--- src/lib.rt:169:12
 within-at-requires : tie.Need-within-at-requires Inv-loop μ-loop
-within-at-requires c κs = ?
+within-at-requires c κs =
+    let il = c .before .before .before in
+    let at = il .before in
+    let st = at .before .before in
+    let k = walk-class (st .pre) (at .loop .inv) (il .loop-test .taken) in
+    (omega (arith, k .some, k .ends, at .loop .inv .came .growing .directory .room), st .pre .ready .range .count)
 
--- src/lib.rt:170:19
 add-class-requires : tie.Need-add-class-requires Inv-loop μ-loop
-add-class-requires c κs = ?
+add-class-requires c κs =
+    let y = c .before in
+    let wi = y .before in
+    let il = wi .before .before .before .before in
+    let at = il .before in
+    let st = at .before .before in
+    walk-halving (st .pre) (at .loop .inv) (il .loop-test .taken) (sym (wi .within-at .ensures) ∙ y .if1 .taken)
 
--- src/lib.rt:172:21
 enum-told : tie.Need-enum-told Inv-loop μ-loop
-enum-told c = ?
+enum-told c = search needs
 
--- src/lib.rt:172:21
 same-length : tie.Need-same-length Inv-loop μ-loop
-same-length c = ?
+same-length c =
+    let d = c .before .before .before .before in
+    let at = d .before .before .before .before .before .before .before .before in
+    d .add-class .kept .1 .0 ∙ at .loop .inv .came .kept .same-length
 
--- src/lib.rt:172:21
 returns : tie.Need-returns Inv-loop μ-loop
-returns c = ?
+returns c =
+    let d = c .before .before .before .before in
+    let at = d .before .before .before .before .before .before .before .before in
+    let st = at .before .before in
+    too-many-then (st .args .job) (st .args .arena .now) (at .loop .arena) (at .loop .inv .came .kept .same-length) (rw (c .enum-told .given .1) at (d .add-class .ensures))
 
--- src/lib.rt:174:34
 enum-known-m : tie.Need-enum-known-m Inv-loop μ-loop
-enum-known-m c = ?
+enum-known-m c = search needs
 
--- src/lib.rt:166:5
 loop-less : tie.Need-loop-less Inv-loop μ-loop
-loop-less c = ?
+loop-less c =
+    let d = c .before .before .before .before .before in
+    let en = d .before .before .before .before .before in
+    let il = en .before .before in
+    let at = il .before in
+    let st = at .before .before in
+    let k = walk-class (st .pre) (at .loop .inv) (il .loop-test .taken) in
+    omega (arith, il .loop-test .taken, k .some, en .end-of .ensures .0)
 
--- src/lib.rt:166:5
 loop-again : tie.Need-loop-again Inv-loop μ-loop
-loop-again c = ?
+loop-again c =
+    let d = c .before .before .before .before .before in
+    let en = d .before .before .before .before .before in
+    let il = en .before .before in
+    let at = il .before in
+    let st = at .before .before in
+    subst (Walking (st .args .job) (st .args .least) (st .args .arena .now) (st .args .start) (take (st .args .job .count) (st .args .counts)) _ _) (sym (en .end-of .ensures .0))
+    (walk-next (st .pre) (at .loop .inv) (il .loop-test .taken) (rw (c .before .m .given .1) at (d .add-class .ensures)))
 
--- src/lib.rt:166:5
 loop-less-2 : tie.Need-loop-less-2 Inv-loop μ-loop
-loop-less-2 c = ?
+loop-less-2 c =
+    let en = c .before .before .before in
+    let il = en .before .before in
+    let at = il .before in
+    let st = at .before .before in
+    let k = walk-class (st .pre) (at .loop .inv) (il .loop-test .taken) in
+    omega (arith, il .loop-test .taken, k .some, en .end-of .ensures .0)
 
--- src/lib.rt:166:5
 loop-again-2 : tie.Need-loop-again-2 Inv-loop μ-loop
-loop-again-2 c = ?
+loop-again-2 c =
+    let wi = c .before in
+    let en = wi .before .before in
+    let il = en .before .before in
+    let at = il .before in
+    let st = at .before .before in
+    subst (Walking (st .args .job) (st .args .least) (st .args .arena .now) (st .args .start) (take (st .args .job .count) (st .args .counts)) _ _) (sym (en .end-of .ensures .0))
+    (walk-past (st .pre) (at .loop .inv) (il .loop-test .taken) (sym (wi .within-at .ensures) ∙ c .if1 .left))
 
--- src/lib.rt:152:1
 same-length-2 : tie.Need-same-length-2 Inv-loop μ-loop
-same-length-2 c = ?
+same-length-2 c = c .before .loop .inv .came .kept .same-length
 
--- src/lib.rt:152:1
 returns-2 : tie.Need-returns-2 Inv-loop μ-loop
-returns-2 c = ?
+returns-2 c =
+    let at = c .before in
+    let st = at .before .before in
+    walk-end (st .pre) (at .loop .inv) (omega (arith, c .loop-test .left))
 
 pub grow-class-spec : {M : Type 1} → statement M
 grow-class-spec =

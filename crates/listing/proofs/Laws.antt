@@ -14,8 +14,8 @@ use Rattle.rules.specs.Planner.{roomOf}
 use Rattle.rules.proofs.Accept.{job-typed}
 use Rattle.rules.proofs.Bags.{all-at}
 use Rattle.rules.proofs.Bridge.{join, join-counts}
-use Rattle.rules.proofs.Classes.{NoneAfter, oneMore, turned, sum-more, some-pieces, join-pieces, below-in, all-in}
-use Rattle.rules.proofs.Halves.{Able, whole-single, whole-in, whole-over, more-at}
+use Rattle.rules.proofs.Classes.{NoneAfter, oneMore, turned, sum-more, some-pieces, Rising, Next, below-in, all-in}
+use Rattle.rules.proofs.Halves.{In, Able, whole-in, whole-over, more-at}
 use Rattle.rules.proofs.Tally.{sum-plus}
 use Rattle.rules.proofs.Worklist.{index}
 use Rattle.shapes.specs.declared.Job.{Job}
@@ -338,3 +338,71 @@ module _ {job : Job} {least : Least} {s : List ℕ} {n half p : ℕ} (h : Source
 
     pub following-end : after ≡ 0 → Followed job (NextIn job (keyAt job s p)) (suc (piecesAt job s p)) s n t m
     following-end e = followed-with (g .followed) (λ v hi no-one. g .followed .grown .has v (omega arith) hi no-one)
+
+-- the queue
+module _ {job : Job} {s : List ℕ} {n p : ℕ} (h : Queued job s n p) where
+  outline-in : (q : ℕ) → q < n → getD (outlinesIn job s n) q noOutline ≡ outlineAt job s q
+  outline-in q x = outline-at (job .count) s n q x
+
+  in-order : Rising noOutline (outlinesIn job s n)
+  in-order i q x y =
+      let hq : q < n = omega (arith, length-outlines job s n) in
+      omega (arith, h .classed .rising i q x hq, ap rules.pieces (outline-in i (omega arith)), ap rules.pieces (outline-in q hq))
+
+  next-in : (q : ℕ) → q < n → q < p → Next (jobFor job) (In (outlinesIn job s n)) (getD (outlinesIn job s n) q noOutline)
+  next-in q x y t l no-one =
+      let e = ap (λ (o : rules.Outline). o .counts) (outline-in q x) in
+      subst (λ c. WholeIn job (oneMore t c) (outlinesIn job s n)) (sym e) (h .next q y t (omega (arith, types-count job (h .classed .ready .range))) (subst (NoneAfter t) e no-one))
+
+  -- class p comes next: all builds with no more pieces are listed
+  pub queue-source : {least : Least} {half k : ℕ} → LeastOf job least → p < n → k ≡ piecesAt job s p → HalfAt (job .count) s n (k + 1) half → Source job least s n half p
+  queue-source {half = half} {k = k} l x e f =
+      let m : k + 1 ≡ suc (piecesAt job s p) = omega arith in
+      record {
+        least-of = l;
+        classed = h .classed;
+        here = x;
+        below = subst (λ v. BelowIn job (suc v) (outlinesIn job s n)) (ap rules.pieces (outline-in p x))
+            (below-in (job-typed (numbersOf job)) (In (outlinesIn job s n)) noOutline (outlinesIn job s n) (λ o y. y) (h .classed .starts) in-order p (λ q y. next-in q (omega arith) y));
+        top = h .top x;
+        half-at = subst (λ v. HalfAt (job .count) s n v half) m f;
+      }
+
+  -- and is followed
+  pub queue-next : {t : List ℕ} {m : ℕ} → p < n → Followed job (NextIn job (keyAt job s p)) (suc (piecesAt job s p)) s n t m → Queued job t m (linkAt s p endLink)
+  queue-next {t} {m} x g =
+      let k = class-at (h .classed .directory) x (h .turn .begins x) in
+      record {
+        classed = g .classed;
+        turn = turn-follows g (linkAt s p endLink) (record { upto = k .ends; begins = next-begins (h .classed .directory) k });
+        top = λ y q z. top k y q z (decLt q n);
+        next = λ q y. each k q y (decLt q p);
+      }
+    where
+      same-p : piecesAt job t p ≡ piecesAt job s p
+      same-p = ap sum (key-follows g p x)
+
+      top : Class (job .count) s n p → linkAt s p endLink < m → (q : ℕ) → q < m → Dec (q < n) → piecesAt job t q ≤ suc (piecesAt job t (linkAt s p endLink))
+      top k y q z (yes w) = omega (arith, h .top x q w, ap sum (key-follows g q w), same-p, g .classed .rising p (linkAt s p endLink) (k .some) y)
+      top k y q z (no w) = omega (arith, g .new q (omega arith) z, same-p, g .classed .rising p (linkAt s p endLink) (k .some) y)
+
+      each : Class (job .count) s n p → (q : ℕ) → q < linkAt s p endLink → Dec (q < p) → NextIn job (keyAt job t q) (outlinesIn job t m)
+      each k q y (yes w) = λ u lo no-one o b e.
+          let f = key-follows g q (omega arith) in
+          in-follows g o (h .next q w u lo (subst (NoneAfter u) f no-one) o b (e ∙ ap (oneMore u) f))
+      each k q y (no w) =
+          let f = key-follows g q (omega (arith, k .ends)) ∙ k .same q (omega arith) y in
+          subst (λ c. NextIn job c (outlinesIn job t m)) (sym f) (g .grown .has)
+
+  -- the queue is at its end
+  pub queue-end : (entry : List ℕ) → length s ≡ length entry → n ≤ p → AllListed job entry s n
+  queue-end entry len x = record {
+    room = omega (arith, h .classed .ready .held .room, ap roomOf len);
+    all = record {
+      once = h .classed .ready .held .sound .once;
+      only = h .classed .ready .held .sound .only;
+      each = all-in (job-typed (numbersOf job)) (In (outlinesIn job s n)) noOutline (outlinesIn job s n) (λ o y. y) (h .classed .starts)
+          (λ q y. let hq : q < n = omega (arith, length-outlines job s n) in next-in q hq (omega arith));
+    };
+    valid = h .classed .ready .held .sound .valid;
+  }

@@ -1,53 +1,101 @@
+-- `listing::list_joins` meets its contract. The invariant: the classes before p are followed by those with one piece more. Assumes nothing.
+use mathlib.Core.Path.{_≡_, refl, sym, ap, _∙_, subst}
+use Prim.Native.Nat.{_-_}
+use native.Mathlib.Omega.{arith}
+use lib.ListN.{length}
+use Rattle.rules.specs.Planner.{roomOf}
+use Rattle.classes.proofs.Laws.{class-at}
+use Rattle.outlines.proofs.Laws.{too-many-then}
+use Rattle.listing.specs.Queue.{Turn, Queued}
+use Rattle.listing.proofs.Laws.{queue-source, queue-next, queue-end, turn-follows}
+use borrow.Author.Needs.{needs}
 use Rattle.listing.proofs.list_joins.Statement.{statement}
 use Rattle.listing.proofs.list_joins.Tie as tie
 
 abbrev Inv-loop : tie.InvT-loop
-Inv-loop job arena₀ singles least types n₀ half₀ p₀ arena n half p = ?
+Inv-loop job arena₀ singles least types n₀ half₀ p₀ arena n half p = Queued job arena n p × Turn (job .count) arena n half × (length arena ≡ length arena₀)
 
 abbrev μ-loop : tie.MeasureT-loop
-μ-loop job arena₀ singles least types n₀ half₀ p₀ arena n half p = ?
+μ-loop job arena₀ singles least types n₀ half₀ p₀ arena n half p = roomOf (length arena₀) - p
 
 loop-holds : tie.Need-loop-holds Inv-loop μ-loop
-loop-holds c = ?
+loop-holds c = (c .before .pre .0, record { upto = omega arith; begins = λ x q y. absurd (omega arith) }, refl)
 
 pieces-at-requires : tie.Need-pieces-at-requires Inv-loop μ-loop
-pieces-at-requires c κs = ?
+pieces-at-requires c κs =
+    let il = c .before in
+    let q = il .before .loop .inv .0 .classed .ready in
+    (omega (arith, il .loop-test .taken, q .held .room), q .range .count)
 
 add-half-of : tie.Need-add-half-of Inv-loop μ-loop
-add-half-of c = ?
+add-half-of c = search needs
 
 half-of-requires : tie.Need-half-of-requires Inv-loop μ-loop
-half-of-requires c κs = ?
+half-of-requires c κs =
+    let at = c .before .before .before in
+    (at .loop .inv .0 .classed .directory, at .loop .inv .1, at .loop .inv .0 .classed .ready .range .count)
 
 end-of-requires : tie.Need-end-of-requires Inv-loop μ-loop
-end-of-requires c κs = ?
+end-of-requires c κs =
+    let il = c .before .before .before .before in
+    omega (arith, il .loop-test .taken, il .before .loop .inv .0 .classed .ready .held .room)
 
 add-next-requires : tie.Need-add-next-requires Inv-loop μ-loop
-add-next-requires c κs = ?
+add-next-requires c κs =
+    let ha = c .before .before .before in
+    let pa = ha .before in
+    let il = pa .before .before in
+    let at = il .before in
+    let st = at .before .before in
+    queue-source (at .loop .inv .0) (st .pre .1) (il .loop-test .taken) (pa .pieces-at .ensures .0) (ha .half-of .ensures)
 
 enum-told : tie.Need-enum-told Inv-loop μ-loop
-enum-told c = ?
+enum-told c = search needs
 
 same-length : tie.Need-same-length Inv-loop μ-loop
-same-length c = ?
+same-length c =
+    let d = c .before .before .before .before in
+    let at = d .before .before .before .before .before .before .before .before in
+    d .add-next .kept .1 .0 ∙ at .loop .inv .2
 
 returns : tie.Need-returns Inv-loop μ-loop
-returns c = ?
+returns c =
+    let d = c .before .before .before .before in
+    let at = d .before .before .before .before .before .before .before .before in
+    let st = at .before .before in
+    too-many-then (st .args .job) (st .args .arena .now) (at .loop .arena) (at .loop .inv .2) (rw (c .enum-told .given .1) at (d .add-next .ensures))
 
 enum-known-m : tie.Need-enum-known-m Inv-loop μ-loop
-enum-known-m c = ?
+enum-known-m c = search needs
 
 loop-less : tie.Need-loop-less Inv-loop μ-loop
-loop-less c = ?
+loop-less c =
+    let en = c .before .before .before .before .before .before .before in
+    let il = en .before .before .before .before .before in
+    let at = il .before in
+    let q = at .loop .inv .0 in
+    let k = class-at (q .classed .directory) (il .loop-test .taken) (q .turn .begins (il .loop-test .taken)) in
+    omega (arith, il .loop-test .taken, q .classed .ready .held .room, ap roomOf (at .loop .inv .2), k .some, en .end-of .ensures .0)
 
 loop-again : tie.Need-loop-again Inv-loop μ-loop
-loop-again c = ?
+loop-again c =
+    let d = c .before .before .before .before .before in
+    let en = d .before .before in
+    let ha = en .before .before in
+    let il = ha .before .before .before in
+    let at = il .before in
+    let st = at .before .before in
+    let g = rw (c .before .m .given .1) at (d .add-next .ensures) in
+    (subst (Queued (st .args .job) _ _) (sym (en .end-of .ensures .0)) (queue-next (at .loop .inv .0) (il .loop-test .taken) g), turn-follows g _ (ha .half-of .ensures .turn), g .same-length ∙ at .loop .inv .2)
 
 same-length-2 : tie.Need-same-length-2 Inv-loop μ-loop
-same-length-2 c = ?
+same-length-2 c = c .before .loop .inv .2
 
 returns-2 : tie.Need-returns-2 Inv-loop μ-loop
-returns-2 c = ?
+returns-2 c =
+    let at = c .before in
+    let st = at .before .before in
+    queue-end (at .loop .inv .0) (st .args .arena .now) (at .loop .inv .2) (omega (arith, c .loop-test .left))
 
 pub list-joins-spec : {M : Type 1} → statement M
 list-joins-spec =

@@ -1,88 +1,116 @@
+-- `listing::can_join` meets its contract. Assumes nothing.
+use mathlib.Core.Path.{ap, _∙_}
+use mathlib.Core.Bool.{true≢false}
+use Prim.Native.Nat.{_-_, _*_}
+use native.Mathlib.Omega.{arith}
+use borrow.Author.Tests.{leb-false}
+use Rattle.arena.specs.Records.{linkAt}
+use Rattle.classes.specs.Orders.{sizeIn}
+use Rattle.outline.specs.Stands.{wayOf}
+use Rattle.growing.proofs.Rows.{two-ways}
+use Rattle.listing.proofs.Targets.{named-room, least-small, idle-small, idle-thin}
 use borrow.Author.Needs.{needs}
 use Rattle.listing.proofs.can_join.Statement.{statement}
 use Rattle.listing.proofs.can_join.Tie as tie
-use Rattle.listing.proofs.can_join.Reads as reads
-use Rattle.listing.proofs.can_join.Lts as lts
-use Rattle.arena.proofs.link_at.Reads as link-at-reads
-use Rattle.arena.proofs.pieces_at.Reads as pieces-at-reads
-use Rattle.arena.proofs.size_at.Reads as size-at-reads
-use Rattle.classes.proofs.end_of.Reads as end-of-reads
-use Rattle.growing.proofs.number_of.Reads as number-of-reads
-use Rattle.growing.proofs.side_of.Reads as side-of-reads
-use Rattle.listing.proofs.least_of.Reads as least-of-reads
-use Rattle.listing.proofs.other.Reads as other-reads
 
--- src/lib.rt:68:9
 number-of-requires : tie.Need-number-of-requires
 number-of-requires c κs = search needs
 
--- src/lib.rt:69:42
 link-at-requires : tie.Need-link-at-requires
-link-at-requires c κs = ?
+link-at-requires c κs =
+    let st = c .before .before in
+    (omega (arith, st .pre .class .some, st .pre .class .ends, st .pre .room), omega (arith, two-ways (st .args .way) (c .number-of .ensures)))
 
--- src/lib.rt:69:9
 size-at-requires : tie.Need-size-at-requires
-size-at-requires c κs = ?
+size-at-requires c κs =
+    let nu = c .before in
+    let st = nu .before .before in
+    let two = two-ways (st .args .way) (nu .number-of .ensures) in
+    (omega (arith, named-room (st .pre) _ _ two (omega arith) (st .pre .class .some), c .link-at .ensures .0), two)
 
--- src/lib.rt:70:8
 side-of-requires : tie.Need-side-of-requires
 side-of-requires c κs = search needs
 
--- src/lib.rt:70:48
 least-of-requires : tie.Need-least-of-requires
 least-of-requires c κs = search needs
 
--- src/lib.rt:70:37
 add-if1 : tie.Need-add-if1
-add-if1 c = ?
+add-if1 c =
+    let sz = c .before .before in
+    let st = sz .before .before .before .before in
+    omega (arith, sz .size-at .ensures .1, c .least-of .ensures, least-small (st .pre .least-of) (wayOf (st .args .way)))
 
--- src/lib.rt:71:9
 returns : tie.Need-returns
-returns c = ?
+returns c =
+    let lo = c .before in
+    let si = lo .before in
+    let sz = si .before in
+    let li = sz .before in
+    let nu = li .before in
+    let st = nu .before .before in
+    let s = st .args .arena .now in
+    λ _. idle-small (st .pre) (st .args .way) _ _ (li .link-at .ensures .0 ∙ ap (linkAt s (st .args .a)) (nu .number-of .ensures)) (sz .size-at .ensures .0 ∙ ap (λ w. sizeIn s w (li .link-at .result)) (nu .number-of .ensures)) (omega (arith, c .if1 .taken, si .side-of .ensures, lo .least-of .ensures))
 
--- src/lib.rt:73:8
 pieces-at-requires : tie.Need-pieces-at-requires
 pieces-at-requires c κs = search needs
 
--- src/lib.rt:74:9
 returns-2 : tie.Need-returns-2
-returns-2 c = ?
+returns-2 c =
+    λ e. absurd (true≢false e)
 
--- src/lib.rt:76:9
 other-requires : tie.Need-other-requires
 other-requires c κs = search needs
 
--- src/lib.rt:77:9
 number-of-requires-2 : tie.Need-number-of-requires-2
 number-of-requires-2 c κs = search needs
 
--- src/lib.rt:78:16
 end-of-requires : tie.Need-end-of-requires
 end-of-requires c κs = search needs
 
--- src/lib.rt:78:16
 sub-last : tie.Need-sub-last
 sub-last c = search needs
 
--- src/lib.rt:79:41
 link-at-requires-2 : tie.Need-link-at-requires-2
-link-at-requires-2 c κs = ?
+link-at-requires-2 c κs =
+    let nu = c .before in
+    let ot = nu .before in
+    let st = ot .before .before .before .before .before .before .before .before .before .before in
+    (omega (arith, c .end-of .ensures .0, st .pre .class .some, st .pre .class .ends, st .pre .room), omega (arith, two-ways (ot .other .result) (nu .number-of2 .ensures)))
 
--- src/lib.rt:79:9
 size-at-requires-2 : tie.Need-size-at-requires-2
-size-at-requires-2 c κs = ?
+size-at-requires-2 c κs =
+    let en = c .before in
+    let nu = en .before in
+    let ot = nu .before in
+    let st = ot .before .before .before .before .before .before .before .before .before .before in
+    let two = two-ways (ot .other .result) (nu .number-of2 .ensures) in
+    let e = en .end-of .ensures .0 in
+    let some = st .pre .class .some in
+    (omega (arith, named-room (st .pre) _ (en .end-of .result - 1) two (omega arith) (omega arith), c .link-at2 .ensures .0), two)
 
--- src/lib.rt:80:9
 least-of-requires-2 : tie.Need-least-of-requires-2
 least-of-requires-2 c κs = search needs
 
--- src/lib.rt:80:5
 mul-result : tie.Need-mul-result
-mul-result c = ?
+mul-result c =
+    let ot = c .before .before .before .before .before in
+    let st = ot .before .before .before .before .before .before .before .before .before .before in
+    omega (arith, c .least-of2 .ensures, least-small (st .pre .least-of) (wayOf (ot .other .result)))
 
--- src/lib.rt:64:1
 returns-3 : tie.Need-returns-3
-returns-3 c = ?
+returns-3 c =
+    let sz = c .before in
+    let li = sz .before in
+    let en = li .before in
+    let nu = en .before in
+    let ot = nu .before in
+    let more = ot .before in
+    let pi = more .before in
+    let st = pi .before .before .before .before .before .before .before .before in
+    let s = st .args .arena .now in
+    let last = en .end-of .result - 1 in
+    let some = st .pre .class .some in
+    λ e. idle-thin (st .pre) (st .args .way) (ot .other .result) (ot .other .ensures) _ last _ _ (pi .pieces-at .ensures .0) (more .if2 .left) (omega (arith, en .end-of .ensures .0)) (li .link-at2 .ensures .0 ∙ ap (linkAt s last) (nu .number-of2 .ensures)) (sz .size-at2 .ensures .0 ∙ ap (λ w. sizeIn s w (li .link-at2 .result)) (nu .number-of2 .ensures)) (omega (arith, leb-false (2 * c .least-of2 .result) (sz .size-at2 .result) e, c .least-of2 .ensures))
 
 pub can-join-spec : {M : Type 1} → statement M
 can-join-spec =

@@ -1,25 +1,30 @@
+-- `listing::add_rows_if` meets its contract. Assumes nothing.
+use mathlib.Core.Path.{_≡_, sym, _∙_}
+use mathlib.Core.Bool.{true, true≢false}
+use Rattle.outline.specs.Stands.{wayOf}
+use Rattle.growing.specs.Rows.{RowsWith}
+use Rattle.growing.proofs.Laws.{came-self, comes-map}
 use borrow.Author.Needs.{needs}
 use Rattle.listing.proofs.add_rows_if.Statement.{statement}
 use Rattle.listing.proofs.add_rows_if.Tie as tie
-use Rattle.listing.proofs.add_rows_if.Reads as reads
-use Rattle.listing.proofs.add_rows_if.Lts as lts
-use Rattle.growing.proofs.add_rows.Reads as add-rows-reads
 
--- src/lib.rt:98:9
 add-rows-requires : tie.Need-add-rows-requires
 add-rows-requires c κs = search needs
 
--- src/lib.rt:98:9
 same-length : tie.Need-same-length
 same-length c = search needs
 
--- src/lib.rt:98:9
 returns : tie.Need-returns
-returns c = ?
+returns c =
+    let d = c .before .before in
+    let st = d .before .before .before .before in
+    let rows = RowsWith (st .args .job) (wayOf (st .args .way)) (st .args .arena .now) (st .args .a) (st .args .b) in
+    comes-map (st .args .job) rows (λ l. st .args .can ≡ true → rows l) (d .add-rows .last .1 .0) (λ l b _ x _. x) (st .pre .ready .held) (st .pre .growing) (d .add-rows .result) (d .add-rows .ensures)
 
--- src/lib.rt:84:1
 returns-2 : tie.Need-returns-2
-returns-2 c = ?
+returns-2 c =
+    let st = c .before .before in
+    came-self (st .args .job) (st .pre .ready .held) (st .pre .growing) (λ e. absurd (true≢false (sym e ∙ c .if1 .left)))
 
 pub add-rows-if-spec : {M : Type 1} → statement M
 add-rows-if-spec = tie.close (tie.spec add-rows-requires same-length returns returns-2)

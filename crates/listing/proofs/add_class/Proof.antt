@@ -1,64 +1,75 @@
+-- `listing::add_class` meets its contract. Assumes nothing.
+use native.Mathlib.Omega.{arith}
+use borrow.Author.Tests.{not-true}
+use lib.Seq.{length-take-le}
+use Rattle.listing.proofs.Targets.{standing, none-join, none-rests, rest-rows, rest-comes}
 use borrow.Author.Needs.{needs}
 use Rattle.listing.proofs.add_class.Statement.{statement}
 use Rattle.listing.proofs.add_class.Tie as tie
-use Rattle.listing.proofs.add_class.Reads as reads
-use Rattle.listing.proofs.add_class.Lts as lts
-use Rattle.arena.proofs.rest_at.Reads as rest-at-reads
-use Rattle.classes.proofs.find.Reads as find-reads
-use Rattle.listing.proofs.add_ways.Reads as add-ways-reads
-use Rattle.listing.proofs.can_join.Reads as can-join-reads
 
--- src/lib.rt:136:9
 can-join-requires : tie.Need-can-join-requires
-can-join-requires c κs = search needs
+can-join-requires c κs =
+    standing (c .before .before .pre)
 
--- src/lib.rt:137:9
 can-join-requires-2 : tie.Need-can-join-requires-2
-can-join-requires-2 c κs = search needs
+can-join-requires-2 c κs =
+    standing (c .before .before .before .before .pre)
 
--- src/lib.rt:140:13
 same-length : tie.Need-same-length
 same-length c = search needs
 
--- src/lib.rt:140:13
 returns : tie.Need-returns
-returns c = ?
+returns c =
+    let th = c .before in
+    let ab = th .before in
+    let be = ab .before .before in
+    let st = be .before .before .before in
+    none-join (st .pre) (be .can-join .ensures (not-true _ (th .if1 .taken))) (ab .can-join2 .ensures (not-true _ (c .if2 .taken)))
 
--- src/lib.rt:144:9
 rest-at-requires : tie.Need-rest-at-requires
 rest-at-requires c κs = search needs
 
--- src/lib.rt:145:11
 find-requires : tie.Need-find-requires
 find-requires c κs = search needs
 
--- src/lib.rt:146:27
 enum-told : tie.Need-enum-told
 enum-told c = search needs
 
--- src/lib.rt:147:19
 enum-known-b : tie.Need-enum-known-b
 enum-known-b c = search needs
 
--- src/lib.rt:147:25
 add-ways-requires : tie.Need-add-ways-requires
-add-ways-requires c κs = ?
+add-ways-requires c κs =
+    let fi = c .before .before .before .before in
+    let re = fi .before .before in
+    let st = re .before .before .before .before .before .before .before .before in
+    let at = rw (c .before .before .b .given .1) at (fi .find .ensures) in
+    rest-rows (st .pre) _ (length-take-le _ (re .rest-at .result) (omega (arith, st .pre .ready .range .count, re .rest-at .ok .1))) (re .rest-at .ensures) _ (at .0) (at .1)
 
--- src/lib.rt:124:1
 same-length-2 : tie.Need-same-length-2
 same-length-2 c = search needs
 
--- src/lib.rt:124:1
 returns-2 : tie.Need-returns-2
-returns-2 c = ?
+returns-2 c =
+    let fi = c .before .before in
+    let re = fi .before .before in
+    let st = re .before .before .before .before .before .before .before .before in
+    none-rests (st .pre) _ (length-take-le _ (re .rest-at .result) (omega (arith, st .pre .ready .range .count, re .rest-at .ok .1))) (re .rest-at .ensures) (rw (c .enum-told .given .1) at (fi .find .ensures))
 
--- src/lib.rt:124:1
 same-length-3 : tie.Need-same-length-3
 same-length-3 c = search needs
 
--- src/lib.rt:124:1
 returns-3 : tie.Need-returns-3
-returns-3 c = ?
+returns-3 c =
+    let wa = c .before .before in
+    let of = wa .before .before .before in
+    let fi = of .before .before in
+    let re = fi .before .before in
+    let ab = re .before .before .before in
+    let be = ab .before .before in
+    let st = be .before .before .before in
+    let at = rw (of .b .given .1) at (fi .find .ensures) in
+    rest-comes (st .pre) _ (length-take-le _ (re .rest-at .result) (omega (arith, st .pre .ready .range .count, re .rest-at .ok .1))) (re .rest-at .ensures) _ (at .0) (at .1) _ _ (be .can-join .ensures) (ab .can-join2 .ensures) (wa .add-ways .last .1 .1 .1 .0) (wa .add-ways .result) (wa .add-ways .ensures)
 
 pub add-class-spec : {M : Type 1} → statement M
 add-class-spec =

@@ -1,6 +1,8 @@
 -- `listing::add_class` meets its contract. Assumes nothing.
+use mathlib.Core.Path.{_≡_}
 use native.Mathlib.Omega.{arith}
 use borrow.Author.Tests.{not-true}
+use lib.ListN.{length, take}
 use lib.Seq.{length-take-le}
 use Rattle.listing.proofs.Targets.{standing, none-join, none-rests, rest-rows, rest-comes}
 use borrow.Author.Needs.{needs}
@@ -38,13 +40,17 @@ enum-told c = search needs
 enum-known-b : tie.Need-enum-known-b
 enum-known-b c = search needs
 
+-- the rest has a count for each type
+rest-length : (c : tie.After-rest-at) → length (take (c .before .before .before .before .before .before .before .before .args .job .count) (c .rest-at .result)) ≡ c .before .before .before .before .before .before .before .before .args .job .count
+rest-length c = length-take-le _ (c .rest-at .result) (omega (arith, c .before .before .before .before .before .before .before .before .pre .ready .range .count, c .rest-at .ok .1))
+
 add-ways-requires : tie.Need-add-ways-requires
 add-ways-requires c κs =
     let fi = c .before .before .before .before in
     let re = fi .before .before in
     let st = re .before .before .before .before .before .before .before .before in
     let at = rw (c .before .before .b .given .1) at (fi .find .ensures) in
-    rest-rows (st .pre) _ (length-take-le _ (re .rest-at .result) (omega (arith, st .pre .ready .range .count, re .rest-at .ok .1))) (re .rest-at .ensures) _ (at .0) (at .1)
+    rest-rows (st .pre) _ (rest-length re) (re .rest-at .ensures) _ (at .0) (at .1)
 
 same-length-2 : tie.Need-same-length-2
 same-length-2 c = search needs
@@ -54,7 +60,7 @@ returns-2 c =
     let fi = c .before .before in
     let re = fi .before .before in
     let st = re .before .before .before .before .before .before .before .before in
-    none-rests (st .pre) _ (length-take-le _ (re .rest-at .result) (omega (arith, st .pre .ready .range .count, re .rest-at .ok .1))) (re .rest-at .ensures) (rw (c .enum-told .given .1) at (fi .find .ensures))
+    none-rests (st .pre) _ (rest-length re) (re .rest-at .ensures) (rw (c .enum-told .given .1) at (fi .find .ensures))
 
 same-length-3 : tie.Need-same-length-3
 same-length-3 c = search needs
@@ -69,7 +75,7 @@ returns-3 c =
     let be = ab .before .before in
     let st = be .before .before .before in
     let at = rw (of .b .given .1) at (fi .find .ensures) in
-    rest-comes (st .pre) _ (length-take-le _ (re .rest-at .result) (omega (arith, st .pre .ready .range .count, re .rest-at .ok .1))) (re .rest-at .ensures) _ (at .0) (at .1) _ _ (be .can-join .ensures) (ab .can-join2 .ensures) (wa .add-ways .last .1 .1 .1 .0) (wa .add-ways .result) (wa .add-ways .ensures)
+    rest-comes (st .pre) _ (rest-length re) (re .rest-at .ensures) _ (at .0) (at .1) _ _ (be .can-join .ensures) (ab .can-join2 .ensures) (wa .add-ways .last .1 .1 .1 .0) (wa .add-ways .result) (wa .add-ways .ensures)
 
 pub add-class-spec : {M : Type 1} → statement M
 add-class-spec =

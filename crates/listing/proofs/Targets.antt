@@ -21,7 +21,7 @@ use Rattle.shapes.specs.declared.Job.{Job}
 use Rattle.outline.specs.declared.Least.{Least}
 use Rattle.outline.specs.declared.Way as code
 use Rattle.outline.specs.declared.Way.the-variants.{Beside, Above}
-use Rattle.outline.specs.Stands.{jobFor, outlineOf, wayOf, LeastOf, leastBy}
+use Rattle.outline.specs.Stands.{jobFor, outlineOf, wayOf, LeastOf, leastBy, twoBytes}
 use Rattle.outline.proofs.Laws.{types-count, least-of}
 use Rattle.arena.specs.Records.{recordAt, linkAt}
 use Rattle.classes.specs.Orders.{sizeIn, namedIn}
@@ -50,6 +50,15 @@ size-way job s i Above = refl
 side-way : (job : Job) (w : code.Way) → sideBy (wayOf w) (jobFor job) ≡ sideOf job w
 side-way job Beside = refl
 side-way job Above = refl
+
+-- the least size of a piece can be added to sizes
+pub least-small : {job : Job} {least : Least} → LeastOf job least → (w : Way) → leastBy w least ≤ twoBytes
+least-small h along = h .long-small
+least-small h across = h .wide-small
+
+-- what an order of the class names is a record of the arena
+pub named-room : {job : Job} {least : Least} {s : List ℕ} {a : ℕ} → Standing job least s a → (w k : ℕ) → w < 2 → a ≤ k → k < linkAt s a endLink → namedIn s w k < roomOf (length s)
+named-room st w k two lo hi = omega (arith, st .class .orders w two .within k lo hi .1, st .class .ends, st .room)
 
 module _ {job : Job} {least : Least} {s : List ℕ} {a : ℕ} (st : Standing job least s a) (way : code.Way) where
   -- behind the smallest of the class there is no room for a piece

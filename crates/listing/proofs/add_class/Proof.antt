@@ -1,18 +1,32 @@
+-- `listing::add_class` meets its contract. Assumes nothing.
+use mathlib.Core.Path.{_≡_}
+use native.Mathlib.Omega.{arith}
+use borrow.Author.Tests.{not-true}
+use lib.ListN.{length, take}
+use lib.Seq.{length-take-le}
+use Rattle.listing.proofs.Targets.{standing, none-join, none-rests, rest-rows, rest-comes}
 use borrow.Author.Needs.{needs}
 use Rattle.listing.proofs.add_class.Statement.{statement}
 use Rattle.listing.proofs.add_class.Tie as tie
 
 can-join-requires : tie.Need-can-join-requires
-can-join-requires c κs = search needs
+can-join-requires c κs =
+    standing (c .before .before .pre)
 
 can-join-requires-2 : tie.Need-can-join-requires-2
-can-join-requires-2 c κs = search needs
+can-join-requires-2 c κs =
+    standing (c .before .before .before .before .pre)
 
 same-length : tie.Need-same-length
 same-length c = search needs
 
 returns : tie.Need-returns
-returns c = ?
+returns c =
+    let th = c .before in
+    let ab = th .before in
+    let be = ab .before .before in
+    let st = be .before .before .before in
+    none-join (st .pre) (be .can-join .ensures (not-true _ (th .if1 .taken))) (ab .can-join2 .ensures (not-true _ (c .if2 .taken)))
 
 rest-at-requires : tie.Need-rest-at-requires
 rest-at-requires c κs = search needs
@@ -26,20 +40,42 @@ enum-told c = search needs
 enum-known-b : tie.Need-enum-known-b
 enum-known-b c = search needs
 
+-- the rest has a count for each type
+rest-length : (c : tie.After-rest-at) → length (take (c .before .before .before .before .before .before .before .before .args .job .count) (c .rest-at .result)) ≡ c .before .before .before .before .before .before .before .before .args .job .count
+rest-length c = length-take-le _ (c .rest-at .result) (omega (arith, c .before .before .before .before .before .before .before .before .pre .ready .range .count, c .rest-at .ok .1))
+
 add-ways-requires : tie.Need-add-ways-requires
-add-ways-requires c κs = ?
+add-ways-requires c κs =
+    let fi = c .before .before .before .before in
+    let re = fi .before .before in
+    let st = re .before .before .before .before .before .before .before .before in
+    let at = rw (c .before .before .b .given .1) at (fi .find .ensures) in
+    rest-rows (st .pre) _ (rest-length re) (re .rest-at .ensures) _ (at .0) (at .1)
 
 same-length-2 : tie.Need-same-length-2
 same-length-2 c = search needs
 
 returns-2 : tie.Need-returns-2
-returns-2 c = ?
+returns-2 c =
+    let fi = c .before .before in
+    let re = fi .before .before in
+    let st = re .before .before .before .before .before .before .before .before in
+    none-rests (st .pre) _ (rest-length re) (re .rest-at .ensures) (rw (c .enum-told .given .1) at (fi .find .ensures))
 
 same-length-3 : tie.Need-same-length-3
 same-length-3 c = search needs
 
 returns-3 : tie.Need-returns-3
-returns-3 c = ?
+returns-3 c =
+    let wa = c .before .before in
+    let of = wa .before .before .before in
+    let fi = of .before .before in
+    let re = fi .before .before in
+    let ab = re .before .before .before in
+    let be = ab .before .before in
+    let st = be .before .before .before in
+    let at = rw (of .b .given .1) at (fi .find .ensures) in
+    rest-comes (st .pre) _ (rest-length re) (re .rest-at .ensures) _ (at .0) (at .1) _ _ (be .can-join .ensures) (ab .can-join2 .ensures) (wa .add-ways .last .1 .1 .1 .0) (wa .add-ways .result) (wa .add-ways .ensures)
 
 pub add-class-spec : {M : Type 1} → statement M
 add-class-spec =

@@ -1,60 +1,66 @@
+-- `listing::add_single` meets its contract: one piece, a class of its own. Assumes nothing.
+use mathlib.Core.Path.{sym, _∙_}
+use Rattle.rules.proofs.Bools.{not-true, not-false}
+use Rattle.listing.proofs.Singles.{single-growable, single-left, single-came}
 use borrow.Author.Needs.{needs}
 use Rattle.listing.proofs.add_single.Statement.{statement}
 use Rattle.listing.proofs.add_single.Tie as tie
-use Rattle.listing.proofs.add_single.Reads as reads
-use Rattle.listing.proofs.add_single.Lts as lts
-use Rattle.growing.proofs.add.Reads as add-reads
-use Rattle.listing.proofs.close_class.Reads as close-class-reads
-use Rattle.outline.proofs.Outline.fits.Reads as fits-reads
-use Rattle.outline.proofs.single.Reads as single-reads
 
--- src/lib.rt:319:9
 single-requires : tie.Need-single-requires
 single-requires c κs = search needs
 
--- src/lib.rt:320:9
 fits-requires : tie.Need-fits-requires
 fits-requires c κs = search needs
 
--- src/lib.rt:321:9
 returns : tie.Need-returns
-returns c = ?
+returns c =
+    let f = c .before in
+    let o = f .before in
+    let st = o .before .before in
+    single-left (st .pre .0) (st .pre .1) (o .single .ensures) (sym (f .fits2 .ensures) ∙ not-true _ (c .if1 .taken))
 
--- src/lib.rt:331:29
 add-t13 : tie.Need-add-t13
 add-t13 c = search needs
 
--- src/lib.rt:324:11
 add-requires : tie.Need-add-requires
-add-requires c κs = ?
+add-requires c κs =
+    let y = c .before .before in
+    let f = y .before in
+    let o = f .before in
+    let st = o .before .before in
+    single-growable (st .pre .0) (st .pre .1) (o .single .ensures) (sym (f .fits2 .ensures) ∙ not-false _ (y .if1 .left))
 
--- src/lib.rt:334:25
 enum-told : tie.Need-enum-told
 enum-told c = search needs
 
--- src/lib.rt:335:26
 enum-known-m : tie.Need-enum-known-m
 enum-known-m c = search needs
 
--- src/lib.rt:336:13
 close-class-requires : tie.Need-close-class-requires
-close-class-requires c κs = ?
+close-class-requires c κs =
+    let d = c .before .before .before .before .before .before in
+    let st = d .before .before .before .before .before .before .before in
+    let g = rw (c .before .before .m .given .1) at (d .add .ensures) in
+    (g .growing, g .grown .held .room, st .pre .0 .singles .ready .range .count)
 
--- src/lib.rt:315:1
 same-length : tie.Need-same-length
 same-length c = search needs
 
--- src/lib.rt:315:1
 returns-2 : tie.Need-returns-2
-returns-2 c = ?
+returns-2 c = rw (c .enum-told .given .1) at (c .before .before .before .before .add .ensures)
 
--- src/lib.rt:315:1
 same-length-2 : tie.Need-same-length-2
 same-length-2 c = search needs
 
--- src/lib.rt:315:1
 returns-3 : tie.Need-returns-3
-returns-3 c = ?
+returns-3 c =
+    let k = c .before .before in
+    let m = k .before .before .before in
+    let d = m .before .before .before .before in
+    let o = d .before .before .before .before .before in
+    let st = o .before .before in
+    let g = rw (m .m .given .1) at (d .add .ensures) in
+    single-came (st .pre .0) (st .pre .1) (o .single .ensures) g (k .close-class .ensures)
 
 pub add-single-spec : {M : Type 1} → statement M
 add-single-spec =

@@ -8,14 +8,15 @@ use native.Mathlib.Nat.{mod-lt}
 use native.Mathlib.Numerals.{add-one}
 use native.Mathlib.Decide.{ℕ-discrete, decLt}
 use lib.Dec.{eqb}
-use lib.ListN.{length, getD, take, drop, length-take, drop-of-length-le}
+use lib.ListN.{length, getD, take, drop, replicate, length-take, drop-of-length-le}
 use lib.Seq.{drop-cons, getD-take}
 use borrow.Author.Tests.{eqb-true, eq-eqb}
 use Rattle.rules.proofs.Bools.{and-both, both-and}
 use Rattle.rules.proofs.Outlines.{sameList}
 use Rattle.rules.specs.Planner.{roomOf}
 use Rattle.arena.specs.declared.Record.{Record}
-use Rattle.arena.specs.Records.{recordAt, sizeOf, linkAt, linksMost, Stored, StoredAlone, Linked}
+use Rattle.arena.specs.Bytes.{word}
+use Rattle.arena.specs.Records.{recordAt, sizeOf, linkPlace, linkAt, linksMost, Stored, StoredAlone, Linked}
 use Rattle.classes.specs.Directory.{weightMost, weigh, weighed, bucketOf, chainLink, headLink, endLink, countsAt, Reach, here, next, Class, Chain, none, some, Directory, Begins, Enterable, Entered, Appendable, Kept, Appended}
 use Rattle.classes.specs.Orders.{Ordered, sizeIn, namedIn, InOrderOf, Orderable, Inserted}
 
@@ -549,3 +550,16 @@ last-most {size} {f} {start} {n} o last h q a b = let r = o .each q a b in go (r
     go : (k : ℕ) → start ≤ k → k < n → f k ≡ q → Dec (k ≡ last) → size q ≤ size (f last)
     go k x y e (yes z) = omega (arith, ap (λ i. size (f i)) z, ap size e)
     go k x y e (no z) = omega (arith, o .rising k last x (omega arith) (omega arith), ap size e)
+
+-- an arena of zeros has no classes
+zero-at : (n i : ℕ) → getD (replicate {A = ℕ} n 0) i 0 ≡ 0
+zero-at zero i = refl
+zero-at (suc n) zero = refl
+zero-at (suc n) (suc i) = zero-at n i
+
+zero-link : (n i k : ℕ) → linkAt (replicate n 0) i k ≡ 0
+unfolding word
+zero-link n i k = rw (zero-at n (linkPlace i k), zero-at n (linkPlace i k + 1)) refl
+
+pub none-entered : (types n : ℕ) → Directory types (replicate n 0) 0
+none-entered types n = record { room = omega arith; heads = λ h l. none (zero-link n h headLink); each = λ q h. absurd (omega arith) }

@@ -79,7 +79,7 @@ at-most-at n c ds i h l e = go (decLe (getD c i 0) (getD ds i 0))
     go (yes p) = p
     go (no p) = absurd (true≢false (sym e ∙ at-most-here n c ds i h l (omega arith)))
 
-getD-table : (n : ℕ) (f : ℕ → ℕ) (i : ℕ) → i < n → getD (table n f) i 0 ≡ f (suc i)
+pub getD-table : (n : ℕ) (f : ℕ → ℕ) (i : ℕ) → i < n → getD (table n f) i 0 ≡ f (suc i)
 getD-table zero f i h = absurd (omega arith)
 getD-table (suc n) f zero h = refl
 getD-table (suc n) f (suc i) h = getD-table n (λ t. f (suc t)) i (omega arith)

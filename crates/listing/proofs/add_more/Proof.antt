@@ -53,7 +53,7 @@ returns-2 c =
     let mo = d .before .before in
     let ca = mo .before .before .before in
     let st = ca .before .before .before in
-    more-follows (st .pre .0) (st .args .t) (st .pre .1) _ (mo .more-at .ensures) _ _ (d .add-target .ensures)
+    more-follows (st .pre .0) (st .args .t) (st .pre .1) _ (mo .more-at .ensures) (d .add-target .last .1 .0) (d .add-target .result) (d .add-target .ensures)
 
 pub add-more-spec : {M : Type 1} → statement M
 add-more-spec =

@@ -2,7 +2,7 @@
 use mathlib.Core.Path.{_≡_, refl, sym, ap, _∙_, subst}
 use mathlib.Core.Bool.{true, false, true≢false}
 use mathlib.Core.List.{List, [], _∷_}
-use Prim.Native.Nat.{ℕ, zero, suc, _+_, _*_, _%_, _≤_, _<_}
+use Prim.Native.Nat.{ℕ, zero, suc, _+_, _≤_, _<_}
 use native.Mathlib.Omega.{arith}
 use native.Mathlib.Nat.{mod-lt}
 use native.Mathlib.Numerals.{add-one}
@@ -490,9 +490,6 @@ class-at {types} {s} {n} {p} d h b = let r = d .each p h in go (r .0) (r .1) (r 
     go : (q : ℕ) → Class types s n q → q ≤ p → p < linkAt s q endLink → Dec (q ≡ p) → Class types s n p
     go q k x y (yes e) = subst (Class types s n) e k
     go q k x y (no e) = absurd (b q (omega arith) (sym (k .same p x y)))
-
-pub class-begins : {types : ℕ} {s : List ℕ} {n p : ℕ} → Class types s n p → Begins types s p
-class-begins k q h e = let r = k .whole q (omega (arith, k .some, k .ends)) e in omega (arith, r .0)
 
 -- where a class ends, the next begins
 pub next-begins : {types : ℕ} {s : List ℕ} {n p : ℕ} → Directory types s n → Class types s n p → linkAt s p endLink < n → Begins types s (linkAt s p endLink)

@@ -1,19 +1,17 @@
 -- The queue of classes: a class comes behind, the classes that follow one, and the end of the queue. Assumes nothing.
 use mathlib.Core.Path.{_≡_, refl, sym, ap, ap₂, _∙_, subst}
-use mathlib.Core.Logic.{_⊎_, inl, inr}
 use mathlib.Core.List.{List, _++_, List·Memᴰ, Memᴰ·append-left, Memᴰ·cast}
-use Prim.Native.Nat.{ℕ, zero, suc, _+_, _*_, _≤_, _<_}
+use Prim.Native.Nat.{ℕ, suc, _+_, _*_, _≤_, _<_}
 use native.Mathlib.Omega.{arith}
 use native.Mathlib.Decide.{ℕ-discrete, decLt}
 use lib.ListN.{length, getD, take, List·getD-eq-default}
 use lib.Seq.{getD-take}
-use Rattle.rules.specs.Bag.{sum, All}
-use Rattle.rules.specs.Box.{Way, along, across}
+use Rattle.rules.specs.Bag.{sum}
+use Rattle.rules.specs.Box.{Way}
 use Rattle.rules.specs.Job as rules
 use Rattle.rules.specs.Planner.{roomOf}
 use Rattle.rules.proofs.Accept.{job-typed}
-use Rattle.rules.proofs.Bags.{all-at}
-use Rattle.rules.proofs.Bridge.{join, join-counts}
+use Rattle.rules.proofs.Bridge.{join}
 use Rattle.rules.proofs.Classes.{NoneAfter, oneMore, turned, sum-more, some-pieces, Rising, Next, below-in, all-in}
 use Rattle.rules.proofs.Halves.{In, Able, whole-in, whole-over, more-at}
 use Rattle.rules.proofs.Tally.{sum-plus}
@@ -21,27 +19,22 @@ use Rattle.rules.proofs.Worklist.{index}
 use Rattle.shapes.specs.declared.Job.{Job}
 use Rattle.shapes.specs.Handed.{numbersOf}
 use Rattle.outline.specs.declared.Least.{Least}
-use Rattle.outline.specs.Stands.{JobInRange, jobFor, outlineOf, LeastOf, leastBy}
+use Rattle.outline.specs.Stands.{jobFor, outlineOf, LeastOf, leastBy}
 use Rattle.outline.proofs.Laws.{types-count, demand-at, least-of, noPiece}
 use Rattle.arena.specs.Records.{recordAt, linkAt}
 use Rattle.arena.proofs.Laws.{recs-same}
-use Rattle.classes.specs.Directory.{countsAt, endLink, Begins, Class, Directory}
+use Rattle.classes.specs.Directory.{endLink, Begins, Class}
 use Rattle.classes.proofs.Laws.{class-at, next-begins}
 use Rattle.outlines.specs.declared.Listed.{Listed}
-use Rattle.outlines.specs.declared.Listed.the-variants.{Complete, Full}
-use Rattle.outlines.specs.Listing.{recsIn, outlinesIn, outlinesOf, noOutline, Building, Sound, Held, Ready, JoinIn, StartsIn, Grown, TooMany, AllListed}
-use Rattle.outlines.proofs.Lists.{mem-at}
-use Rattle.outlines.proofs.Laws.{length-outlines, outline-at, grown-self, grown-le, grown-then, outlines-stay, too-many-then}
-use Rattle.growing.specs.Growing.{Growing, Came}
+use Rattle.outlines.specs.Listing.{recsIn, outlinesIn, outlinesOf, noOutline, Sound, Held, Ready, AllListed}
+use Rattle.outlines.proofs.Laws.{length-outlines, outline-at, grown-self, grown-le, grown-then, outlines-stay}
+use Rattle.growing.specs.Growing.{Came}
 use Rattle.listing.specs.Queue.{outlineAt, keyAt, piecesAt, WholeIn, BelowIn, NextIn, Classed, Turn, Queued, HalfAt, Followed, Follows, Sought, PairsBefore, Target, Source, Closed}
 use Rattle.listing.proofs.Targets.{build-at, key-length}
 
 -- what holds of a list holds where others come behind
 whole-more : (job : Job) {c : List ℕ} (l b : List rules.Outline) → WholeIn job c l → WholeIn job c (l ++ b)
 whole-more job l b f o d e = Memᴰ·append-left b (f o d e)
-
-next-more : (job : Job) (c : List ℕ) (l b : List rules.Outline) → NextIn job c l → NextIn job c (l ++ b)
-next-more job c l b f t h n = whole-more job l b (f t h n)
 
 -- the pieces of a record
 some-at : {job : Job} {s : List ℕ} {n : ℕ} → Ready job s n → (i : ℕ) → i < n → 1 ≤ piecesAt job s i
@@ -198,10 +191,6 @@ followed-then {job} {k = k} {t = t} {u = u} {n = n} {m = m} {r = r} f g h =
     each : (q : ℕ) → n ≤ q → q < r → Dec (q < m) → piecesAt job u q ≡ k
     each q x y (yes z) = ap (λ v. sum (take (job .count) (v .outline .counts))) (h .records q z) ∙ g .new q x z
     each q x y (no z) = h .new q (omega arith) y
-
-pub follows-then : {job : Job} {P : List rules.Outline → Type 0} (Q R : List rules.Outline → Type 0) {k : ℕ} {s t : List ℕ} (u : List ℕ) {n m : ℕ} → ((l b : List rules.Outline) → length l ≡ m → P l → Q (l ++ b) → R (l ++ b)) → Followed job P k s n t m → (r : Listed) → Follows job Q k t m u r → Follows job R k s n u r
-follows-then Q R u f g (Complete r) h = followed-then f g h
-follows-then {job} Q R {s = s} {t = t} u f g Full h = too-many-then job s t (g .same-length) h
 
 -- counts that no record has: a class of them can grow behind
 pub sought : {job : Job} {least : Least} {s : List ℕ} {n half : ℕ} {c : List ℕ} → Target job least s n half c → ((q : ℕ) → q < n → keyAt job s q ≡ c → ⊥) → Sought job least s n half c

@@ -2,12 +2,12 @@
 use mathlib.Core.Path.{_≡_, refl, sym, ap, ap₂, _∙_, subst}
 use mathlib.Core.Bool.{Bool, true, false, true≢false}
 use mathlib.Core.Logic.{_⊎_, inl, inr}
-use mathlib.Core.List.{List, _++_, List·Memᴰ, Memᴰ·append-left}
-use Prim.Native.Nat.{ℕ, zero, suc, _+_, _*_, _≤_, _<_}
+use mathlib.Core.List.{List, _++_}
+use Prim.Native.Nat.{ℕ, suc, _+_, _*_, _≤_, _<_}
 use native.Mathlib.Omega.{arith}
-use native.Mathlib.Decide.{ℕ-discrete, decLt}
+use native.Mathlib.Decide.{decLt}
 use lib.ListN.{length, getD, take}
-use Rattle.rules.specs.Bag.{sum, All}
+use Rattle.rules.specs.Bag.{sum}
 use Rattle.rules.specs.Box.{Way, along, across}
 use Rattle.rules.specs.Job as rules
 use Rattle.rules.specs.Planner.{roomOf}
@@ -25,18 +25,18 @@ use Rattle.outline.specs.Stands.{jobFor, outlineOf, wayOf, LeastOf, leastBy, tw
 use Rattle.outline.proofs.Laws.{types-count, least-of}
 use Rattle.arena.specs.Records.{recordAt, linkAt}
 use Rattle.classes.specs.Orders.{sizeIn, namedIn}
-use Rattle.classes.specs.Directory.{countsAt, endLink, Begins, Class, Directory, Kept}
+use Rattle.classes.specs.Directory.{endLink, Begins, Class}
 use Rattle.classes.proofs.Laws.{class-at, class-kept, next-begins, first-least, last-most}
-use Rattle.outlines.specs.Listing.{outlinesIn, noOutline, Building, Held, Ready, JoinIn}
+use Rattle.outlines.specs.Listing.{outlinesIn, noOutline, Building, Ready, JoinIn}
 use Rattle.outlines.proofs.Lists.{mem-at}
-use Rattle.outlines.proofs.Laws.{length-outlines, outline-at, grown-le}
+use Rattle.outlines.proofs.Laws.{length-outlines, outline-at}
 use Rattle.outlines.specs.declared.Listed.{Listed}
 use Rattle.outlines.specs.declared.Listed.the-variants.{Complete, Full}
 use Rattle.growing.specs.Growing.{Growing, Came, Comes, pairOf}
-use Rattle.growing.specs.Rows.{numberOf, sideOf, OfClass, RowsWith, Rowsable}
+use Rattle.growing.specs.Rows.{numberOf, sideOf, RowsWith, Rowsable}
 use Rattle.growing.proofs.Laws.{came-self, came-then, comes-then, came-with}
 use Rattle.growing.proofs.Rows.{join-stays, two-ways}
-use Rattle.listing.specs.Queue.{outlineAt, keyAt, Idle, Standing, WaysWith, PairsOf, Halving, ClassPairs, Turn, Sought, PairsBefore}
+use Rattle.listing.specs.Queue.{outlineAt, keyAt, Idle, Standing, WaysWith, PairsOf, Halving, ClassPairs, Sought, PairsBefore}
 
 bool-cases : (b : Bool) → (b ≡ true) ⊎ (b ≡ false)
 bool-cases true = inl refl

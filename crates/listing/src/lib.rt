@@ -11,7 +11,7 @@ use outlines::Listed;
 use shapes::Job;
 use shapes::TYPES_MOST;
 ghost use mathlib.Core.Path.{_≡_};
-ghost use mathlib.Core.Bool.{Bool, true, false};
+ghost use mathlib.Core.Bool.{true, false};
 ghost use Prim.Native.Nat.{_<_, _≤_, suc};
 ghost use lib.ListN.{length, take};
 ghost use Rattle.rules.specs.Bag.{sum};
@@ -20,10 +20,10 @@ ghost use Rattle.rules.proofs.Classes.{turned, oneMore};
 ghost use Rattle.rules.specs.Planner.{roomOf};
 ghost use Rattle.outline.specs.Stands.{JobInRange, wayOf, LeastOf, leastBy};
 ghost use Rattle.classes.specs.Directory.{Directory};
-ghost use Rattle.outlines.specs.Listing.{outlinesIn, StartsIn, SingleIn, Lists};
+ghost use Rattle.outlines.specs.Listing.{StartsIn, SingleIn, Lists};
 ghost use Rattle.growing.specs.Growing.{Growing, Comes, pairOf};
-ghost use Rattle.growing.specs.Rows.{numberOf, Rowsable, RowsWith};
-ghost use Rattle.listing.specs.Queue.{keyAt, piecesAt, WholeIn, NextIn, Turn, HalfAt, Queued, Follows, Idle, Standing, WaysWith, Halving, ClassPairs, Sought, PairsBefore, Target, Source, Singles, SinglesTo, SinglesGrow, Closed};
+ghost use Rattle.growing.specs.Rows.{Rowsable, RowsWith};
+ghost use Rattle.listing.specs.Queue.{keyAt, piecesAt, WholeIn, NextIn, Turn, HalfAt, Queued, Follows, Idle, Standing, WaysWith, Halving, ClassPairs, Sought, PairsBefore, Target, Source, SinglesTo, SinglesGrow, Closed};
 
 // From a class on, the first with more than half of `most` pieces.
 fn half_of(arena: &[u8], from: usize, n: usize, most: usize, types: usize) -> usize

@@ -5,11 +5,10 @@ use mathlib.Core.List.{List, [], _∷_, _++_, append-nil, append-assoc, List·Me
 use Prim.Native.Nat.{ℕ, zero, suc, _+_, _≤_, _<_}
 use native.Mathlib.Omega.{arith}
 use native.Mathlib.Numerals.{add-one}
-use native.Mathlib.Nat.{max-comm}
 use borrow.Author.Count.{below-more}
 use lib.ListN.{length, getD, length-append, length-map, List·getD-append, List·getD-map}
 use Rattle.rules.specs.Bag.{nil}
-use Rattle.rules.specs.Box.{Way, along, across}
+use Rattle.rules.specs.Box.{Way}
 use Rattle.rules.specs.Made.{no-one, one}
 use Rattle.rules.specs.Job as rules
 use Rattle.rules.specs.Numbers.{PieceType, noType, grown, singlesFrom}
@@ -19,7 +18,7 @@ use Rattle.rules.proofs.Bridge.{join, made-join}
 use Rattle.rules.proofs.Listing.{made-kept}
 use Rattle.rules.proofs.Outlines.{fits, fits-true, true-fits, sameOutline, same-eq, eq-same}
 use Rattle.rules.proofs.Unfold.{Rec, noRec, at, MadeBy}
-use Rattle.rules.proofs.Worklist.{index, Row, Upto, row-next, upto-next, loop-done}
+use Rattle.rules.proofs.Worklist.{index}
 use Rattle.shapes.specs.declared.Job.{Job}
 use Rattle.shapes.specs.Handed.{numbersOf}
 use Rattle.outline.specs.declared.Outline.{Outline}
@@ -34,8 +33,8 @@ use Rattle.arena.specs.Records.{recordAt, makerOf, recOf, recs, Storable, Store
 use Rattle.arena.proofs.Laws.{length-recs, recs-at, recs-more}
 use Rattle.outlines.specs.declared.Listed.{Listed}
 use Rattle.outlines.specs.declared.Listed.the-variants.{Complete, Full}
-use Rattle.outlines.specs.Listing.{recsIn, outlinesOf, outlinesIn, noOutline, Building, Sound, Held, Holds, Ready, Addable, Joinable, OutlineIn, SingleIn, JoinIn, BothIn, RowIn, StartsIn, Grown, TooMany, Grows, AllListed, Lists}
-use Rattle.outlines.proofs.Lists.{mem-at, row-grow, upto-grow, sound-more, too-many-with}
+use Rattle.outlines.specs.Listing.{recsIn, outlinesOf, outlinesIn, noOutline, Building, Sound, Held, Holds, Ready, Addable, Joinable, OutlineIn, SingleIn, JoinIn, StartsIn, Grown, TooMany, Lists}
+use Rattle.outlines.proofs.Lists.{mem-at, sound-more, too-many-with}
 
 -- the outlines of records
 pub length-outlines : (job : Job) (s : List ℕ) (n : ℕ) → length (outlinesIn job s n) ≡ n
@@ -83,14 +82,6 @@ module _ (job : Job) where
 
   pub too-many-then : (s t : List ℕ) → length t ≡ length s → TooMany job t → TooMany job s
   too-many-then s t e m = (m .0, m .1, m .2, m .3 ∙ ap (λ n. suc (roomOf n)) e)
-
-  pub grows-then : {P : List rules.Outline → Type 0} (Q R : List rules.Outline → Type 0) {s t : List ℕ} (u : List ℕ) {n m : ℕ} → ((l b : List rules.Outline) → length l ≡ m → P l → Q (l ++ b) → R (l ++ b)) → length t ≡ length s → Grown job P s n t m → (r : Listed) → Grows job Q t m u r → Grows job R s n u r
-  grows-then Q R u f e g (Complete k) h = grown-then f g h
-  grows-then Q R {s = s} {t = t} u f e g Full h = too-many-then s t e h
-
-  -- the same step, said of another fact
-  pub grows-map : (Q R : List rules.Outline → Type 0) (s u : List ℕ) (n : ℕ) → ((l b : List rules.Outline) → l ≡ outlinesIn job s n → Q (l ++ b) → R (l ++ b)) → Held job s n → (r : Listed) → Grows job Q s n u r → Grows job R s n u r
-  grows-map Q R s u n f h r g = grows-then {P = λ l. l ≡ outlinesIn job s n} Q R u (λ l b _ e q. f l b e q) refl (grown-self s n h refl) r g
 
 -- adding a record
 module _ (job : Job) (s : List ℕ) (n : ℕ) (r : Record) (a : Addable job s n r) where
@@ -208,57 +199,6 @@ module _ (job : Job) (s : List ℕ) (n i q : ℕ) (k : Joinable job s n i q) (w 
   join-in l b e m f =
       let h : (p : ℕ) → p < n → getD (l ++ b) p noOutline ≡ getD here p noOutline = λ p hp. List·getD-append l b noOutline p (omega (arith, ap length e, length-outlines job s n)) ∙ ap (λ u. getD u p noOutline) e in
       Memᴰ·cast (ap₂ (join (wayOf w)) (h i (k .one)) (h q (k .other)) ∙ sym is-join) m
-
--- the joins of a pair: the first still stands where others come behind
-pub both-in : (job : Job) (i q m : ℕ) → i < m → q < m → (l b : List rules.Outline) → length l ≡ m → JoinIn job along i q l → JoinIn job across i q (l ++ b) → BothIn job i q (l ++ b)
-both-in job i q m hi hq l b e f g =
-    let x = List·getD-append l b noOutline i (omega arith) in
-    let y = List·getD-append l b noOutline q (omega arith) in
-    let p : rules.horizontal (getD (l ++ b) i noOutline) (getD (l ++ b) q noOutline) ≡ rules.horizontal (getD l i noOutline) (getD l q noOutline) = ap₂ rules.horizontal x y in
-    record { sides = λ k. Memᴰ·cast p (Memᴰ·append-left b (f (subst (rules.Fits (jobFor job)) p k))); stacks = g }
-
--- the joins of outline i with those before q, and now with q
-pub row-in : (job : Job) (i q m : ℕ) → i < m → q ≤ i → (l b : List rules.Outline) → length l ≡ m → Row (rules.building (jobFor job)) noOutline l i q → BothIn job i q (l ++ b) → Row (rules.building (jobFor job)) noOutline (l ++ b) i (q + 1)
-row-in job i q m hi hq l b e r h =
-    subst (Row (rules.building (jobFor job)) noOutline (l ++ b) i) (sym (add-one q)) (row-next (rules.building (jobFor job)) noOutline (l ++ b) i q (row-grow (rules.building (jobFor job)) noOutline l b i q (omega arith) (omega arith) r) h)
-
-pub whole-row : (job : Job) (i q : ℕ) (l : List rules.Outline) → i < q → Row (rules.building (jobFor job)) noOutline l i q → RowIn job i l
-whole-row job i q l h r p hp = r p (omega arith)
-
--- as far as the loop over pairs has come
-pub record Closing (job : Job) (i : ℕ) (l : List rules.Outline) : Type 0 where
-  pub starts : StartsIn job l
-  pub upto : Upto (rules.building (jobFor job)) noOutline l i
-
-pub none-closed : (job : Job) (l : List rules.Outline) → StartsIn job l → Closing job 0 l
-none-closed job l st = record { starts = st; upto = λ p h. absurd (omega arith) }
-
-pub closing-more : (job : Job) (i m : ℕ) → i < m → (l b : List rules.Outline) → length l ≡ m → Closing job i l → RowIn job i (l ++ b) → Closing job (i + 1) (l ++ b)
-closing-more job i m h l b e c r = record {
-  starts = λ o s k. Memᴰ·append-left b (c .starts o s k);
-  upto = subst (Upto (rules.building (jobFor job)) noOutline (l ++ b)) (sym (add-one i)) (upto-next (rules.building (jobFor job)) noOutline (l ++ b) i (upto-grow (rules.building (jobFor job)) noOutline l b i (omega arith) (c .upto)) r);
-}
-
-plus-comm : (a b : List ℕ) → rules.plus a b ≡ rules.plus b a
-plus-comm [] [] = refl
-plus-comm [] (y ∷ b) = refl
-plus-comm (x ∷ a) [] = refl
-plus-comm (x ∷ a) (y ∷ b) = let e : x + y ≡ y + x = omega arith in λ i. e i ∷ plus-comm a b i
-
-horizontal-comm : (a b : rules.Outline) → rules.horizontal a b ≡ rules.horizontal b a
-horizontal-comm a b = let e : a .long + b .long ≡ b .long + a .long = omega arith in λ i. record { long = e i; wide = max-comm (a .wide) (b .wide) i; counts = plus-comm (a .counts) (b .counts) i }
-
-vertical-comm : (a b : rules.Outline) → rules.vertical a b ≡ rules.vertical b a
-vertical-comm a b = let e : a .wide + b .wide ≡ b .wide + a .wide = omega arith in λ i. record { long = max-comm (a .long) (b .long) i; wide = e i; counts = plus-comm (a .counts) (b .counts) i }
-
--- the loop has come to the end
-pub all-listed : (job : Job) (s t : List ℕ) (n i : ℕ) → length t ≡ length s → n ≤ i → Held job t n → Closing job i (outlinesIn job t n) → AllListed job s t n
-all-listed job s t n i e h k c = record {
-  room = omega (arith, k .room, ap roomOf e);
-  all = loop-done (rules.building (jobFor job)) noOutline horizontal-comm vertical-comm (k .sound .once) (k .sound .only) (c .starts)
-      (λ p hp. c .upto p (omega (arith, length-outlines job t n)));
-  valid = k .sound .valid;
-}
 
 -- before any outline is listed
 pub none-held : (job : Job) (s : List ℕ) → Held job s 0

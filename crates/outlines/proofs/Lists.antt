@@ -1,19 +1,18 @@
--- Lists with one element more: distinct, valid, and the work done so far. Assumes nothing.
+-- Lists with one element more: distinct, and valid. Assumes nothing.
 use mathlib.Core.Path.{_≡_, refl, sym, ap₂, _∙_, subst}
 use mathlib.Core.Logic.{_⊎_, inl, inr}
-use mathlib.Core.List.{List, [], _∷_, _++_, List·Memᴰ, List·Memᴰ·head, List·Memᴰ·tail, List·Memᴰ·not-nil, List·Memᴰ·append-cases, List·Memᴰ·eq-of-singleton, Memᴰ·append-left}
+use mathlib.Core.List.{List, [], _∷_, _++_, List·Memᴰ, List·Memᴰ·head, List·Memᴰ·tail, List·Memᴰ·not-nil, List·Memᴰ·append-cases, List·Memᴰ·eq-of-singleton}
 use Prim.Native.Nat.{ℕ, zero, suc, _≤_, _<_}
 use native.Mathlib.Omega.{arith}
 use native.Mathlib.Decide.{ℕ-discrete}
 use lib.ListN.{length, getD, length-append, length-map, List·getD-append}
 use lib.Seq.{getD-at}
 use Rattle.rules.specs.Bag.{All, nil, cons}
-use Rattle.rules.specs.Made.{Making, Distinct, no-one, new, MoreThan}
+use Rattle.rules.specs.Made.{Distinct, no-one, new, MoreThan}
 use Rattle.rules.specs.Job.{Job, Outline, Build}
 use Rattle.rules.proofs.Bags.{all-append, map-append}
 use Rattle.rules.proofs.Bridge.{join}
 use Rattle.rules.proofs.Unfold.{Maker, piece, joined, Rec, noRec, at, MadeBy, Valid}
-use Rattle.rules.proofs.Worklist.{Joined, Row, Upto}
 use Rattle.outlines.specs.Listing.{outlinesOf, Sound}
 
 module _ {A : Type 0} where
@@ -29,20 +28,6 @@ module _ {A : Type 0} where
   mem-at d [] i h = absurd (omega arith)
   mem-at d (x ∷ l) zero h = List·Memᴰ·head refl
   mem-at d (x ∷ l) (suc i) h = List·Memᴰ·tail (mem-at d l i (omega arith))
-
-  -- what was done stays done when others come behind
-  module _ (m : Making A) (d : A) where
-    pub joined-grow : {l : List A} (t : List A) {a b : A} → Joined m d l a b → Joined m d (l ++ t) a b
-    joined-grow t h = record { sides = λ f. Memᴰ·append-left t (h .sides f); stacks = λ f. Memᴰ·append-left t (h .stacks f) }
-
-    pub row-grow : (l t : List A) (i k : ℕ) → i < length l → k ≤ length l → Row m d l i k → Row m d (l ++ t) i k
-    row-grow l t i k hi hk r q h =
-        let e = List·getD-append l t d i hi in
-        let f = List·getD-append l t d q (omega arith) in
-        subst (λ x. Joined m d (l ++ t) (getD (l ++ t) i d) x) (sym f) (subst (λ x. Joined m d (l ++ t) x (getD l q d)) (sym e) (joined-grow t (r q h)))
-
-    pub upto-grow : (l t : List A) (i : ℕ) → i ≤ length l → Upto m d l i → Upto m d (l ++ t) i
-    upto-grow l t i h u p hp = row-grow l t p (suc p) (omega arith) (omega arith) (u p hp)
 
 -- a record's halves stand where they stood
 made-grow : (j : Job) (rs ts : List Rec) (i : ℕ) (o : Outline) (m : Maker) → i ≤ length rs → MadeBy j rs i o m → MadeBy j (rs ++ ts) i o m

@@ -60,7 +60,7 @@ fn plan_fitting(job: Job, arena: &mut [u8], buffer: &mut [u64]) -> PlanVerdict
     requires { ⌜ Fitting job ⌝ }
     ensures { λ r. ⌜ Answered job (length (now (arena .entry))) (now (buffer .entry)) (now (buffer .exit)) r ⌝ }
 {
-    match outlines::list_outlines(job, arena) {
+    match listing::list_outlines(job, arena) {
         Listed::Full => PlanVerdict::NoPlan(Refusal::ArenaFull),
         Listed::Complete(n) => plan_listed(job, arena, n, buffer),
     }

@@ -3,7 +3,7 @@
 use mathlib.Core.Path.{_≡_, refl, ap}
 use mathlib.Core.Logic.{_⊎_}
 use mathlib.Core.List.{List, [], _∷_, List·Memᴰ}
-use Prim.Native.Nat.{ℕ, zero, suc, _+_, _*_, _≤_, _<_}
+use Prim.Native.Nat.{ℕ, zero, suc, _*_, _≤_, _<_}
 use native.Mathlib.Omega.{arith}
 use lib.ListN.{length, getD}
 use Rattle.rules.specs.Bag.{sum, All}
@@ -13,7 +13,7 @@ use Rattle.rules.specs.Job.{Job, Outline, Fits, Build, AtMost, plus, pie
 use Rattle.rules.proofs.Bags.{all-at}
 use Rattle.rules.proofs.Bridge.{join}
 use Rattle.rules.proofs.Tally.{Typed}
-use Rattle.rules.proofs.Classes.{Below, Class, Starts, Marked, turned, Ends, ends-join, class-in, oneMore, join-pieces, some-pieces}
+use Rattle.rules.proofs.Classes.{Below, Class, Starts, Marked, turned, ends-join, class-in, oneMore, join-pieces, some-pieces}
 use Rattle.rules.proofs.Listing.{made-kept}
 use Rattle.rules.proofs.Least.{sizeBy, Least, ends-least}
 

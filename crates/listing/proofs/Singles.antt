@@ -1,12 +1,12 @@
 -- Single pieces: each comes as a class of its own, and with all of them the queue begins. Assumes nothing.
 use mathlib.Core.Path.{_≡_, refl, sym, ap, _∙_, subst}
 use mathlib.Core.Bool.{true, false}
-use mathlib.Core.List.{List, []}
+use mathlib.Core.List.{List}
 use Prim.Native.Nat.{ℕ, zero, suc, _+_, _≤_, _<_}
 use native.Mathlib.Omega.{arith}
 use native.Mathlib.Decide.{decLt}
 use lib.Dec.{eqb}
-use lib.ListN.{length, getD, take}
+use lib.ListN.{getD}
 use borrow.Author.Tests.{eq-eqb, ne-eqb}
 use Rattle.rules.specs.Bag.{tick, sum}
 use Rattle.rules.specs.Job as rules
@@ -26,7 +26,7 @@ use Rattle.classes.specs.Directory.{countsAt, Directory}
 use Rattle.outlines.specs.Listing.{recsIn, outlinesIn, outlinesOf, Held, OutlineIn, SingleIn, StartsIn}
 use Rattle.outlines.proofs.Laws.{SinglesIn, all-starts, grown-self, grown-then, none-held, single-addable, single-in, single-not, singles-more}
 use Rattle.growing.specs.Growing.{Growing, Came, classOf, Growable}
-use Rattle.listing.specs.Queue.{keyAt, piecesAt, Queued, Singles, SinglesTo, SinglesGrown, Closed}
+use Rattle.listing.specs.Queue.{keyAt, piecesAt, Queued, SinglesTo, SinglesGrown, Closed}
 use Rattle.listing.proofs.Laws.{recs-stay, held-stays, key-same}
 
 -- a class with nothing in it yet

@@ -20,7 +20,7 @@ use Rattle.arena.specs.declared.How.the-variants.{Joined}
 use Rattle.outline.specs.declared.Way.the-variants.{Beside, Above}
 use Rattle.arena.specs.Records.{recordAt, sizeOf, Loaded}
 use Rattle.classes.specs.Orders.{InOrderOf}
-use Rattle.classes.specs.Directory.{countsAt, Appendable, Appended}
+use Rattle.classes.specs.Directory.{countsAt, Directory, Appendable, Appended}
 use Rattle.classes.proofs.Laws.{directory-kept, appended-stored, kept-self, kept-then}
 use Rattle.outlines.specs.declared.Listed.{Listed}
 use Rattle.outlines.specs.declared.Listed.the-variants.{Complete, Full}
@@ -36,6 +36,16 @@ not-true false h = refl
 -- an outline with other counts is another
 pub absent-before : (types : ℕ) (s : List ℕ) (start n : ℕ) (o : Outline) → Absent types s start n o → (k : ℕ) → k < start → sameOutline (outlineOf types o) (outlineOf types (recordAt s k .outline)) ≡ false
 absent-before types s start n o a k h = not-true _ (λ e. a .before k h (sym (ap (λ (u : rules.Outline). u .counts) (same-eq (outlineOf types o) (outlineOf types (recordAt s k .outline)) e))))
+
+-- a class with nothing in it yet
+pub nothing-grows : {types : ℕ} {s : List ℕ} {n : ℕ} {c : List ℕ} → Directory types s n → ((q : ℕ) → q < n → countsAt types s q ≡ c → ⊥) → Growing types s n n c
+nothing-grows d f = record {
+  begins = omega arith;
+  directory = d;
+  before = f;
+  counts = λ q x y. absurd (omega arith);
+  orders = λ w l. record { within = λ k x y. absurd (omega arith); each = λ q x y. absurd (omega arith); rising = λ i k x y z. absurd (omega arith) };
+}
 
 -- one step behind another, as `grown-then`
 module _ (job : Job) {start : ℕ} {c : List ℕ} where

@@ -29,6 +29,7 @@ use Rattle.outlines.specs.declared.Listed.{Listed}
 use Rattle.outlines.specs.Listing.{recsIn, outlinesIn, outlinesOf, noOutline, Sound, Held, Ready, AllListed}
 use Rattle.outlines.proofs.Laws.{length-outlines, outline-at, grown-self, grown-le, grown-then, outlines-stay}
 use Rattle.growing.specs.Growing.{Came}
+use Rattle.growing.proofs.Laws.{nothing-grows}
 use Rattle.listing.specs.Queue.{outlineAt, keyAt, piecesAt, WholeIn, BelowIn, NextIn, Classed, Turn, Queued, HalfAt, Followed, Follows, Sought, PairsBefore, Target, Source, Closed}
 use Rattle.listing.proofs.Targets.{build-at, key-length}
 
@@ -197,13 +198,7 @@ pub sought : {job : Job} {least : Least} {s : List ℕ} {n half : ℕ} {c : List
 sought h f = record {
   least-of = h .least-of;
   ready = h .classed .ready;
-  growing = record {
-    begins = omega arith;
-    directory = h .classed .directory;
-    before = f;
-    counts = λ q x y. absurd (omega arith);
-    orders = λ w l. record { within = λ k x y. absurd (omega arith); each = λ q x y. absurd (omega arith); rising = λ i k x y z. absurd (omega arith) };
-  };
+  growing = nothing-grows (h .classed .directory) f;
   turn = h .half-at .turn;
 }
 

@@ -22,23 +22,15 @@ use Rattle.outline.specs.Stands.{JobInRange, jobFor, outlineOf, Alone}
 use Rattle.outline.proofs.Laws.{types-count, getD-table}
 use Rattle.arena.specs.declared.How.the-variants.{Piece}
 use Rattle.arena.specs.declared.Record.{Record}
-use Rattle.classes.specs.Directory.{countsAt, Directory}
+use Rattle.classes.specs.Directory.{Directory}
 use Rattle.outlines.specs.Listing.{recsIn, outlinesIn, outlinesOf, Held, OutlineIn, SingleIn, StartsIn}
 use Rattle.outlines.proofs.Laws.{SinglesIn, all-starts, grown-self, grown-then, none-held, single-addable, single-in, single-not, singles-more}
-use Rattle.growing.specs.Growing.{Growing, Came, classOf, Growable}
+use Rattle.growing.specs.Growing.{Came, classOf, Growable}
+use Rattle.growing.proofs.Laws.{nothing-grows}
 use Rattle.listing.specs.Queue.{keyAt, piecesAt, Queued, SinglesTo, SinglesGrown, Closed}
 use Rattle.listing.proofs.Laws.{recs-stay, held-stays, key-same}
 
--- a class with nothing in it yet
-nothing-grows : {types : ℕ} {s : List ℕ} {n : ℕ} {c : List ℕ} → Directory types s n → ((q : ℕ) → q < n → countsAt types s q ≡ c → ⊥) → Growing types s n n c
-nothing-grows d f = record {
-  begins = omega arith;
-  directory = d;
-  before = f;
-  counts = λ q x y. absurd (omega arith);
-  orders = λ w l. record { within = λ k x y. absurd (omega arith); each = λ q x y. absurd (omega arith); rising = λ i k x y z. absurd (omega arith) };
-}
-
+-- a table has none of a type where what it is made of has none
 table-none : (n : ℕ) (f : ℕ → ℕ) (u : ℕ) → f (suc u) ≡ 0 → getD (table n f) u 0 ≡ 0
 table-none zero f u e = refl
 table-none (suc n) f zero e = e

@@ -181,13 +181,7 @@ fn grow_class(
 }
 
 // Enters the class that grew from `start` on, if there is anything in it.
-fn close_class(
-    arena: &mut [u8],
-    start: usize,
-    n: usize,
-    counts: [u8; TYPES_MOST],
-    types: usize,
-)
+fn close_class(arena: &mut [u8], start: usize, n: usize, counts: [u8; TYPES_MOST], types: usize)
     requires { ⌜ Growing types (now arena) start n (take types counts) × (n ≤ roomOf (length (now arena))) × (types ≤ typesMost) ⌝ }
     ensures { λ _. ⌜ Closed types (now (arena .entry)) n (now (arena .exit)) ⌝ }
 {
@@ -255,14 +249,7 @@ fn add_more(
 }
 
 // All outlines with one piece more than class p has, of the last type that it has or of a later one.
-fn add_next(
-    job: Job,
-    arena: &mut [u8],
-    first: usize,
-    half: usize,
-    p: usize,
-    least: Least,
-) -> Listed
+fn add_next(job: Job, arena: &mut [u8], first: usize, half: usize, p: usize, least: Least) -> Listed
     requires { ⌜ Source job least (now arena) first half p ⌝ }
     ensures { λ r. ⌜ Follows job (NextIn job (keyAt job (now (arena .entry)) p)) (suc (piecesAt job (now (arena .entry)) p)) (now (arena .entry)) first (now (arena .exit)) r ⌝ }
 {
@@ -297,7 +284,13 @@ fn list_joins(job: Job, arena: &mut [u8], singles: usize, least: Least) -> Liste
     let mut p = 0;
     while p < n {
         let at = p;
-        half = half_of(arena, half, n, arena::pieces_at(arena, at, types) + 1, types);
+        half = half_of(
+            arena,
+            half,
+            n,
+            arena::pieces_at(arena, at, types) + 1,
+            types,
+        );
         p = classes::end_of(arena, at);
         match add_next(job, arena, n, half, at, least) {
             Listed::Full => {

@@ -2,7 +2,7 @@
 use mathlib.Core.Path.{_≡_}
 use mathlib.Core.Bool.{Bool, true, false}
 use mathlib.Core.List.{List, map, _++_, List·Memᴰ}
-use Prim.Native.Nat.{ℕ, suc, _≤_, _<_}
+use Prim.Native.Nat.{ℕ, _≤_, _<_}
 use lib.ListN.{length, getD}
 use Rattle.rules.specs.Bag.{All}
 use Rattle.rules.specs.Box.{Way}
@@ -11,7 +11,6 @@ use Rattle.rules.specs.Job as rules
 use Rattle.rules.specs.Planner.{roomOf, FitsAlone}
 use Rattle.rules.proofs.Bridge.{join}
 use Rattle.rules.proofs.Unfold.{Rec, noRec, MadeBy, Valid}
-use Rattle.rules.proofs.Worklist.{Joined, Row}
 use Rattle.shapes.specs.declared.Job.{Job}
 use Rattle.outline.specs.Stands.{JobInRange, jobFor, pieceAt, outlineOf, twoBytes}
 use Rattle.arena.specs.declared.Record.{Record}
@@ -72,7 +71,7 @@ pub record Joinable (job : Job) (s : List ℕ) (n i q : ℕ) : Type 0 where
   pub one : i < n
   pub other : q < n
 
--- what is now in a list of outlines: an outline; a piece alone if it fits; a join if it fits; both joins; those of outline i with all up to itself; all pieces that fit alone
+-- what is now in a list of outlines: an outline; a piece alone if it fits; a join if it fits; all pieces that fit alone
 abbrev pub OutlineIn : Job → Record → List rules.Outline → Type 0
 OutlineIn job r l = List·Memᴰ (outlineOf (job .count) (r .outline)) l
 
@@ -81,12 +80,6 @@ SingleIn job t l = FitsAlone (jobFor job) (pieceAt job t) → List·Memᴰ (rule
 
 abbrev pub JoinIn : Job → Way → ℕ → ℕ → List rules.Outline → Type 0
 JoinIn job w i q l = let o = join w (getD l i noOutline) (getD l q noOutline) in rules.Fits (jobFor job) o → List·Memᴰ o l
-
-abbrev pub BothIn : Job → ℕ → ℕ → List rules.Outline → Type 0
-BothIn job i q l = Joined (rules.building (jobFor job)) noOutline l (getD l i noOutline) (getD l q noOutline)
-
-abbrev pub RowIn : Job → ℕ → List rules.Outline → Type 0
-RowIn job i l = Row (rules.building (jobFor job)) noOutline l i (suc i)
 
 abbrev pub StartsIn : Job → List rules.Outline → Type 0
 StartsIn job l = (o : rules.Outline) → rules.building (jobFor job) .Start o → rules.Fits (jobFor job) o → List·Memᴰ o l

@@ -1,7 +1,7 @@
 -- `listing::half_of` meets its contract: the walk goes from class to class. Assumes nothing.
 use Prim.Native.Nat.{_-_}
 use native.Mathlib.Omega.{arith}
-use mathlib.Core.Path.{sym, ap, _∙_, subst}
+use mathlib.Core.Path.{sym, subst}
 use Rattle.classes.proofs.Laws.{class-at, next-begins}
 use Rattle.listing.specs.Queue.{Turn}
 use borrow.Author.Needs.{needs}

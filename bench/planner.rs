@@ -189,26 +189,30 @@ impl Bench {
         }
     }
 
-    /// Jobs that have more and more outlines; behind a time stands the power of N by which it grew.
+    /// Jobs that have more and more outlines; behind a time stands the power of N by which it grew, and in the last line the power from the first to the last.
     fn family(&mut self, jobs: &[Job]) {
         println!("\n| job | N | library, ms | power of N | Rust class by class, ms | power of N | ratio |\n|---|---|---|---|---|---|---|");
-        let mut before: Option<Found> = None;
+        let mut found: Vec<Found> = vec![];
         for job in jobs {
             let mut planners = vec![&mut self.classes];
-            let slow = before.as_ref().map_or(false, |b| b.time(By::Library).map_or(true, |t| t.median() > SECOND));
+            let slow = found.last().map_or(false, |b| b.time(By::Library).map_or(true, |t| t.median() > SECOND));
             if !(self.slow_library && slow) {
                 planners.push(&mut self.library);
             }
             let f = measure_job(job, &mut planners);
-            let power = |by: By| {
-                let b = before.as_ref()?;
-                Some((f.time(by)?.median() / b.time(by)?.median()).ln() / (f.answer[6] as f64 / b.answer[6] as f64).ln())
-            };
-            let cell = |by: By| format!("{} | {}", f.milliseconds(by), told(power(by).map(|p| format!("{p:.1}"))));
+            let cell = |by: By| format!("{} | {}", f.milliseconds(by), told(found.last().and_then(|b| power(by, b, &f))));
             println!("| {} | {} | {} | {} | {} |", job.name, f.outlines(), cell(By::Library), cell(By::Classes), told_ratio(f.ratio(By::Library, By::Classes)));
-            before = Some(f);
+            found.push(f);
         }
+        let whole = |by: By| told(found.iter().rev().find_map(|last| power(by, &found[0], last)));
+        println!("| all of them | | | {} | | {} | |", whole(By::Library), whole(By::Classes));
     }
+}
+
+/// The power of N by which a planner's time grew from one job to another.
+fn power(by: By, from: &Found, to: &Found) -> Option<String> {
+    let time = to.time(by)?.median() / from.time(by)?.median();
+    Some(format!("{:.1}", time.ln() / (to.answer[6] as f64 / from.answer[6] as f64).ln()))
 }
 
 /// How the longest strip's name ends.

@@ -1,54 +1,7 @@
 //! The library beside plain Rust of the same method, on the same inputs in one run: medians of five, in microseconds of processor time, and their ratios.
 //! That both answer the same is asserted on each input.
-mod peer;
-
-#[repr(C)]
-struct Clock {
-    seconds: i64,
-    nanoseconds: i64,
-}
-
-extern "C" {
-    fn clock_gettime(clock: i32, now: *mut Clock) -> i32;
-}
-
-/// The processor time of this process, in microseconds: other programs on the machine count for less than on a wall clock.
-fn now() -> f64 {
-    let mut t = Clock { seconds: 0, nanoseconds: 0 };
-    unsafe { clock_gettime(2, &mut t) };
-    t.seconds as f64 * 1e6 + t.nanoseconds as f64 * 1e-3
-}
-
-fn median(mut v: Vec<f64>) -> f64 {
-    v.sort_by(|a, b| a.partial_cmp(b).unwrap());
-    v[v.len() / 2]
-}
-
-/// Medians of five of each, taking turns; each run is repeated for at least 20 ms.
-fn side_by_side(runs: &mut [&mut dyn FnMut()]) -> Vec<f64> {
-    let mut times = vec![vec![]; runs.len()];
-    for _ in 0..5 {
-        for (run, times) in runs.iter_mut().zip(times.iter_mut()) {
-            let (start, mut repeats) = (now(), 0);
-            while now() - start < 20_000.0 {
-                run();
-                repeats += 1;
-            }
-            times.push((now() - start) / repeats as f64);
-        }
-    }
-    times.into_iter().map(median).collect()
-}
-
-/// A value of which the compiler knows nothing. (std::hint::black_box is younger than the oldest Rust that this is built by.)
-fn black_box<T: Copy>(value: T) -> T {
-    unsafe { std::ptr::read_volatile(&value) }
-}
-
-/// An answer that nobody needs, but that the compiler must not leave out.
-fn black_box_only<T: Copy>(answer: T) {
-    black_box(answer);
-}
+use measure::{black_box, black_box_only, side_by_side};
+use peers::peer;
 
 fn answer(r: Result<varandeco::Drawing, varandeco::Refusal>) -> peer::Answer {
     match r {
@@ -64,7 +17,7 @@ fn read(name: &str, text: &[u8], expected: peer::Answer) {
         &mut || black_box_only(varandeco::check_text(black_box(text))),
         &mut || black_box_only(peer::check_text(black_box(text), peer::library_sort)),
     ]);
-    println!("| {name} | {} | {:.1} | {:.1} | {:.2} |", text.len(), t[0], t[1], t[0] / t[1]);
+    println!("| {name} | {} | {:.1} | {:.1} | {:.2} |", text.len(), t[0].median(), t[1].median(), t[0].ratio(&t[1]));
 }
 
 /// A drawing: the sizes of its upright and its lying pieces, and where they lie.
@@ -136,7 +89,8 @@ fn check(name: &str, n: u64, d: &Drawn) {
         &mut || black_box_only(peer::check_numbers(black_box(&d.job), black_box(&d.list), peer::shell_sort)),
         &mut || black_box_only(peer::check_numbers(black_box(&d.job), black_box(&d.list), peer::library_sort)),
     ]);
-    println!("| {name} | {n} | {} | {:.1} | {:.1} | {:.2} | {:.1} | {:.2} |", ours[0], t[0], t[1], t[0] / t[1], t[2], t[0] / t[2]);
+    let [library, shell, rust] = [0, 1, 2].map(|i| t[i].median());
+    println!("| {name} | {n} | {} | {library:.1} | {shell:.1} | {:.2} | {rust:.1} | {:.2} |", ours[0], t[0].ratio(&t[1]), t[0].ratio(&t[2]));
 }
 
 fn main() {

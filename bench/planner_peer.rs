@@ -1,185 +1,431 @@
-// All outlines of a job, class by class, in an arena of 32-byte records: the plain Rust peer of crate `outlines`.
-// A class is all outlines with the same counts; its records stand one behind the other. Classes stand in order of their pieces.
-// Each class but the singles is reached from a class A by one piece more of A's last type or a later one. For such counts T every class A
-// with at most half the pieces and counts within T's is joined with the class T - A (found by hashing), both ways: lengths and widths rise in the
-// class's two orders, so that a row of joins, and the rows, end at the first that does not fit.
-use std::time::Instant;
+//! The planner in plain Rust, by the library's method: all outlines of a job in an arena of 32-byte records, the best of them, unfolded and put in order.
+//!
+//! `class_by_class` lists the outlines as the library does. A class is all outlines with the same counts. Its records stand one behind the other; classes stand in
+//! order of their pieces and are found by their counts. Every class but the single pieces has one piece more than a class before it, of that class's last type or a later one.
+//! For such counts, each class with at most half the pieces is joined with the class of the rest, both ways. In a class's two orders the sizes rise, so that
+//! the joins of a record, and the records, end at the first that does not fit.
+//!
+//! `all_pairs` lists the same outlines by joining each record with all before it: the method that the other is there to outdo.
+use crate::peer::{Job, Piece, TYPES};
 
-const TYPES: usize = 12;
-const RECORD: usize = 32;
-// the fields of a record: counts at 0, then two bytes each
-const LENGTH: usize = 12;
-const WIDTH: usize = 14;
-const FIRST: usize = 16;
-const SECOND: usize = 18;
-const KIND: usize = 20; // one byte
-const MARKS: usize = 21; // one byte, of a class's first record: 1 if one of it ends in a join beside, 2 above; 3 for a single piece
-const BY: [usize; 2] = [22, 24]; // slot k of a class: which record of it is the k-th by length, by width
-const END: usize = 26; // first record of a class: the record behind its last
-const CHAIN: usize = 28; // first record of a class: the class before it in its bucket, plus 1
-const HEAD: usize = 30; // slot h: the last class of bucket h, plus 1
+/// number, place, profit, length, width, pieces, N
+pub type Answer = [u64; 7];
 
-#[derive(Clone)]
-pub struct Job { pub size: [u32; 2], pub types: Vec<[u32; 4]> } // grown length, grown width, profit, demand
+/// The counts of all types, a byte each. They stay below 128: the top bit of each byte is free.
+#[derive(Clone, Copy, Default, PartialEq, Eq)]
+struct Counts(u64, u64);
 
-#[derive(Default, Debug, Clone, Copy)]
-pub struct Steps { pub walk: u64, pub hits: u64, pub pairs: u64, pub tries: u64, pub fit: u64, pub same: u64, pub shift: u64, pub chain: u64 }
-
-struct Lister<'a> { marks: bool, least: [usize; 2], job: &'a Job, a: &'a mut [u8], room: usize, n: usize, steps: Steps }
-
-fn word(a: &[u8], at: usize) -> usize { a[at] as usize | (a[at + 1] as usize) << 8 }
-fn packed(a: &[u8], at: usize) -> (u64, u64) {
-    (u64::from_le_bytes(a[at..at + 8].try_into().unwrap()), u32::from_le_bytes(a[at + 8..at + 12].try_into().unwrap()) as u64)
-}
 const TOP: u64 = 0x8080_8080_8080_8080;
-// counts are at most 50, so that the top bit of each byte stays where no byte borrows
-fn within(a: (u64, u64), t: (u64, u64)) -> bool { ((t.0 | TOP) - a.0) & ((t.1 | TOP) - a.1) & TOP == TOP }
 
-impl<'a> Lister<'a> {
-    fn get(&self, i: usize, f: usize) -> usize { word(self.a, i * RECORD + f) }
-    fn put(&mut self, i: usize, f: usize, v: usize) { self.a[i * RECORD + f] = v as u8; self.a[i * RECORD + f + 1] = (v >> 8) as u8; }
-    fn counts(&self, i: usize) -> (u64, u64) { packed(self.a, i * RECORD) }
-    fn bucket(&self, c: (u64, u64)) -> usize { ((c.0.wrapping_mul(0x9E37_79B9_7F4A_7C15) ^ c.1.wrapping_mul(0xC2B2_AE3D_27D4_EB4F)) >> 32) as usize * self.room >> 32 }
-    fn find(&mut self, c: (u64, u64)) -> Option<usize> {
-        let mut p = self.get(self.bucket(c), HEAD);
-        while p != 0 { self.steps.chain += 1; if self.counts(p - 1) == c { return Some(p - 1) } p = self.get(p - 1, CHAIN); }
+impl Counts {
+    fn one_of(t: usize) -> Counts {
+        if t < 8 {
+            Counts(1 << (8 * t), 0)
+        } else {
+            Counts(0, 1 << (8 * (t - 8)))
+        }
+    }
+
+    fn of(self, t: usize) -> u64 {
+        (if t < 8 { self.0 >> (8 * t) } else { self.1 >> (8 * (t - 8)) }) & 255
+    }
+
+    fn plus(self, c: Counts) -> Counts {
+        Counts(self.0 + c.0, self.1 + c.1)
+    }
+
+    fn less(self, c: Counts) -> Counts {
+        Counts(self.0 - c.0, self.1 - c.1)
+    }
+
+    /// No count is above that of `c`: the top bit that is set for each byte of `c` is borrowed by none.
+    fn within(self, c: Counts) -> bool {
+        ((c.0 | TOP) - self.0) & ((c.1 | TOP) - self.1) & TOP == TOP
+    }
+
+    fn pieces(self) -> u64 {
+        (0..TYPES).map(|t| self.of(t)).sum()
+    }
+
+    /// Numbers that are in the counts' lexicographic order, type 1 first.
+    fn order(self) -> (u64, u64) {
+        (self.0.swap_bytes(), self.1.swap_bytes())
+    }
+
+    fn mixed(self) -> u64 {
+        self.0.wrapping_mul(0x9E37_79B9_7F4A_7C15) ^ self.1.wrapping_mul(0xC2B2_AE3D_27D4_EB4F)
+    }
+}
+
+/// Along, across.
+type Size = [u16; 2];
+
+const SINGLE: u8 = 0;
+
+/// How a record that is joined along (0) or across (1) was made.
+fn joined(way: usize) -> u8 {
+    1 + way as u8
+}
+
+/// An outline and how it was made; and for the class method, links.
+#[derive(Clone, Copy, Default)]
+#[repr(C)]
+pub struct Record {
+    counts: u64,
+    more_counts: u32,
+    size: Size,
+    /// The two records that were joined; or the type of a single piece, from 0.
+    halves: [u16; 2],
+    how: u8,
+    /// Slot k of a class: which record of the class is the k-th along, and across.
+    by: [u16; 2],
+    /// First record of a class: the record behind its last.
+    end: u16,
+    /// First record of a class: the class before it in its bucket, plus 1.
+    chain: u16,
+    /// Slot h: the last class of bucket h, plus 1.
+    head: u16,
+}
+
+impl Record {
+    fn new(counts: Counts, size: Size, how: u8, halves: [u16; 2]) -> Record {
+        Record { counts: counts.0, more_counts: counts.1 as u32, size, how, halves, ..Record::default() }
+    }
+
+    fn counts(&self) -> Counts {
+        Counts(self.counts, self.more_counts as u64)
+    }
+}
+
+/// The bytes of a record, and the most records that are used.
+pub const RECORD_BYTES: usize = std::mem::size_of::<Record>();
+pub const RECORDS_MOST: usize = 65_535;
+const _: () = assert!(RECORD_BYTES == 32);
+
+/// There are more outlines than records.
+pub struct Full;
+
+fn grown(job: &Job, p: &Piece) -> [u64; 2] {
+    [p.length + job.kerf, p.width + job.kerf]
+}
+
+/// The pieces that fit the sheet alone: type, from 0, and grown size.
+fn singles(job: &Job) -> impl Iterator<Item = (usize, Size)> + '_ {
+    let sides = sides(job);
+    let grown = job.types[..job.count as usize].iter().map(move |p| grown(job, p).map(|s| s as u16)).enumerate();
+    grown.filter(move |(_, size)| size[0] <= sides[0] && size[1] <= sides[1])
+}
+
+fn sides(job: &Job) -> Size {
+    [job.length as u16, job.width as u16]
+}
+
+fn demands(job: &Job) -> Counts {
+    (0..job.count as usize).fold(Counts::default(), |c, t| {
+        let one = Counts::one_of(t);
+        let b = job.types[t].demand;
+        c.plus(Counts(one.0 * b, one.1 * b))
+    })
+}
+
+/// The size of a join: the sum in its way, the larger in the other.
+fn join(a: Size, b: Size, way: usize) -> Size {
+    let mut size = [a[0].max(b[0]), a[1].max(b[1])];
+    size[way] = a[way] + b[way];
+    size
+}
+
+struct Lister<'a> {
+    records: &'a mut [Record],
+    n: usize,
+    sides: Size,
+    /// The least grown size of any type, each way.
+    least: Size,
+    singles: usize,
+    /// The first class with more than half of the pieces that classes now have.
+    half: usize,
+}
+
+impl Lister<'_> {
+    fn bucket(&self, counts: Counts) -> usize {
+        ((counts.mixed() >> 32) as usize * self.records.len()) >> 32
+    }
+
+    fn find(&self, counts: Counts) -> Option<usize> {
+        let mut next = self.records[self.bucket(counts)].head as usize;
+        while next != 0 {
+            let class = &self.records[next - 1];
+            if class.counts() == counts {
+                return Some(next - 1);
+            }
+            next = class.chain as usize;
+        }
         None
     }
-    fn sort_in(&mut self, lo: usize, way: usize) {
-        let (v, mut k) = (self.get(self.n, LENGTH + 2 * way), self.n);
-        while k > lo { let r = self.get(k - 1, BY[way]); if self.get(r, LENGTH + 2 * way) <= v { break } self.steps.shift += 1; self.put(k, BY[way], r); k -= 1; }
-        self.put(k, BY[way], self.n);
+
+    /// The records from `start` on are a class.
+    fn enter(&mut self, start: usize) {
+        let h = self.bucket(self.records[start].counts());
+        self.records[start].chain = self.records[h].head;
+        self.records[start].end = self.n as u16;
+        self.records[h].head = start as u16 + 1;
     }
-    // adds an outline to the class that starts at `lo`, unless it is there; false where the room is taken
-    fn add(&mut self, lo: usize, t: (u64, u64), size: [usize; 2], kind: u8, halves: (usize, usize)) -> bool {
-        for r in lo..self.n { self.steps.same += 1; if self.get(r, LENGTH) == size[0] && self.get(r, WIDTH) == size[1] { return true } }
-        if self.n == self.room { return false }
-        let at = self.n * RECORD;
-        self.a[at..at + 8].copy_from_slice(&t.0.to_le_bytes());
-        self.a[at + 8..at + 12].copy_from_slice(&(t.1 as u32).to_le_bytes());
-        self.put(self.n, LENGTH, size[0]); self.put(self.n, WIDTH, size[1]); self.put(self.n, FIRST, halves.0); self.put(self.n, SECOND, halves.1); self.a[at + KIND] = kind;
-        self.sort_in(lo, 0); self.sort_in(lo, 1); self.n += 1; true
+
+    /// Puts the last record into an order of the class from `start` on.
+    fn order_in(&mut self, start: usize, way: usize) {
+        let size = self.records[self.n].size[way];
+        let mut k = self.n;
+        while start < k {
+            let r = self.records[k - 1].by[way];
+            if self.records[r as usize].size[way] <= size {
+                break;
+            }
+            self.records[k].by[way] = r;
+            k -= 1;
+        }
+        self.records[k].by[way] = self.n as u16;
     }
-    fn enter(&mut self, lo: usize) {
-        let h = self.bucket(self.counts(lo));
-        let (was, n) = (self.get(h, HEAD), self.n);
-        self.put(lo, CHAIN, was); self.put(h, HEAD, lo + 1); self.put(lo, END, n);
+
+    /// Adds a record to the class that grows from `start` on, unless its outline is there.
+    fn add(&mut self, start: usize, new: Record) -> Result<(), Full> {
+        if self.records[start..self.n].iter().any(|r| r.size == new.size) {
+            return Ok(());
+        }
+        let slot = self.records.get_mut(self.n).ok_or(Full)?;
+        *slot = Record { head: slot.head, ..new };
+        self.order_in(start, 0);
+        self.order_in(start, 1);
+        self.n += 1;
+        Ok(())
     }
-    // 0 where the room is taken, 1 where no join fits, 2 where one does
-    fn rows(&mut self, lo: usize, t: (u64, u64), a: usize, b: usize, way: usize) -> u8 {
-        let mut any = 1;
-        let (ae, be, o) = (self.get(a, END), self.get(b, END), 1 - way);
-        let (most, other) = (self.job.size[way] as usize, self.job.size[o] as usize);
-        for k in a..ae {
-            let x = self.get(k, BY[way]); let (xs, xo) = (self.get(x, LENGTH + 2 * way), self.get(x, LENGTH + 2 * o));
-            for q in b..be {
-                self.steps.tries += 1;
-                let y = self.get(q, BY[way]); let ys = self.get(y, LENGTH + 2 * way);
-                if xs + ys > most { if q == b { return any } break }
-                let yo = self.get(y, LENGTH + 2 * o); let m = xo.max(yo); if m > other { continue }
-                self.steps.fit += 1; let mut size = [m; 2]; size[way] = xs + ys;
-                any = 2; if !self.add(lo, t, size, 1 + way as u8, (x, y)) { return 0 }
+
+    /// Joins the records of class a with those of class b.
+    fn add_rows(&mut self, start: usize, counts: Counts, a: usize, b: usize, way: usize) -> Result<(), Full> {
+        let (a_end, b_end) = (self.records[a].end as usize, self.records[b].end as usize);
+        for i in a..a_end {
+            let x = self.records[i].by[way];
+            let x_size = self.records[x as usize].size;
+            for k in b..b_end {
+                let y = self.records[k].by[way];
+                let y_size = self.records[y as usize].size;
+                if x_size[way] + y_size[way] > self.sides[way] {
+                    if k == b {
+                        return Ok(());
+                    }
+                    break;
+                }
+                self.add(start, Record::new(counts, join(x_size, y_size, way), joined(way), [x, y]))?;
             }
         }
-        any
+        Ok(())
     }
-    fn target(&mut self, t: (u64, u64), s: u32) -> bool {
-        let (lo, mut p, mut new) = (self.n, 0, 0u8);
-        while p < lo {
-            let c = self.counts(p); let e = self.get(p, END); self.steps.walk += 1;
-            if within(c, t) {
-                self.steps.hits += 1;
-                if 2 * pieces(c) > s { break }
-                // joins of one way associate: the first half may be kept to classes in which one ends in the other way; and a class whose least size leaves no room for any piece joins with none
-                let marks = self.a[p * RECORD + MARKS];
-                let can = [0, 1].map(|way| !self.marks || (marks & (2 >> way) != 0 && self.get(self.get(p, BY[way]), LENGTH + 2 * way) + self.least[way] <= self.job.size[way] as usize));
+
+    /// Class p may be the first half of joins in a way: some piece fits beside its least record; and a class of which no record is a join in the other way is not needed,
+    /// since joins of one way may be taken in any order.
+    fn can(&self, p: usize, way: usize) -> bool {
+        let other = 1 - way;
+        let class = &self.records[p];
+        let size_at = |slot: usize, way: usize| self.records[self.records[slot].by[way] as usize].size[way];
+        size_at(p, way) + self.least[way] <= self.sides[way] && (p < self.singles || size_at(class.end as usize - 1, other) >= 2 * self.least[other])
+    }
+
+    /// Adds the class of these counts.
+    fn add_target(&mut self, counts: Counts) -> Result<(), Full> {
+        if self.find(counts).is_some() {
+            return Ok(());
+        }
+        let start = self.n;
+        let mut p = 0;
+        while p < self.half {
+            let class = &self.records[p];
+            let (part, end) = (class.counts(), class.end as usize);
+            if part.within(counts) {
+                let can = [self.can(p, 0), self.can(p, 1)];
                 if can[0] || can[1] {
-                    if let Some(b) = self.find((t.0 - c.0, t.1 - c.1)) { self.steps.pairs += 1; for way in 0..2 { if can[way] { match self.rows(lo, t, p, b, way) { 0 => return false, 1 => {}, _ => new |= 1 << way } } } }
+                    if let Some(rest) = self.find(counts.less(part)) {
+                        for way in 0..2 {
+                            if can[way] {
+                                self.add_rows(start, counts, p, rest, way)?;
+                            }
+                        }
+                    }
                 }
             }
-            p = e;
+            p = end;
         }
-        if lo < self.n { self.enter(lo); self.a[lo * RECORD + MARKS] = new }
-        true
+        if start < self.n {
+            self.enter(start);
+        }
+        Ok(())
     }
-    fn all(&mut self) -> Option<usize> {
-        let n = self.job.types.len();
-        let mut dem = [0u8; TYPES]; for i in 0..n { dem[i] = self.job.types[i][3] as u8 }
-        let dem = packed(&dem, 0);
-        for i in 0..n {
-            let t = self.job.types[i];
-            if t[0] <= self.job.size[0] && t[1] <= self.job.size[1] { let lo = self.n; if !self.add(lo, one(i), [t[0] as usize, t[1] as usize], 0, (i + 1, 0)) { return None } self.enter(lo); self.a[lo * RECORD + MARKS] = 3 }
+
+    /// Adds the classes with one piece more than class p, of its last type or a later one.
+    fn add_next(&mut self, p: usize, types: usize, demands: Counts) -> Result<(), Full> {
+        let counts = self.records[p].counts();
+        let pieces = counts.pieces() + 1;
+        while self.half < self.n && 2 * self.records[self.half].counts().pieces() <= pieces {
+            self.half = self.records[self.half].end as usize;
         }
-        let mut p = 0;
-        while p < self.n {
-            let c = self.counts(p); let s = pieces(c);
-            for i in (0..n).rev() {
-                let o = one(i); let t = (c.0 + o.0, c.1 + o.1);
-                if within(t, dem) && !self.target(t, s + 1) { return None }
-                if (c.0 & o.0.wrapping_mul(255)) | (c.1 & o.1.wrapping_mul(255)) != 0 { break }
+        for t in (0..types).rev() {
+            if counts.of(t) < demands.of(t) {
+                self.add_target(counts.plus(Counts::one_of(t)))?;
             }
-            p = self.get(p, END);
+            if counts.of(t) != 0 {
+                break;
+            }
         }
-        Some(self.n)
+        Ok(())
     }
 }
-fn one(i: usize) -> (u64, u64) { if i < 8 { (1 << (8 * i), 0) } else { (0, 1 << (8 * (i - 8))) } }
-fn pieces(c: (u64, u64)) -> u32 { (c.0.to_le_bytes().iter().map(|&x| x as u32).sum::<u32>()) + c.1.to_le_bytes().iter().map(|&x| x as u32).sum::<u32>() }
 
-// Lists all outlines of a job in the lent arena: their number, or None where there are more than its room.
-pub fn list_outlines(job: &Job, arena: &mut [u8], marks: bool) -> (Option<usize>, Steps) {
-    arena.fill(0);
-    let room = (arena.len() / RECORD).min(65_535);
-    let least = [0, 1].map(|w| job.types.iter().map(|t| t[w] as usize).min().unwrap());
-    let mut l = Lister { marks, least, job, a: arena, room, n: 0, steps: Steps::default() };
-    let r = l.all(); (r, l.steps)
+/// Lists all outlines of a job that is in range, class by class: how many.
+pub fn class_by_class(job: &Job, records: &mut [Record]) -> Result<usize, Full> {
+    records.fill(Record::default());
+    let types = job.count as usize;
+    let least = [0, 1].map(|way| job.types[..types].iter().map(|p| grown(job, p)[way]).min().unwrap() as u16);
+    let mut l = Lister { records, n: 0, sides: sides(job), least, singles: 0, half: 0 };
+    for (t, size) in singles(job) {
+        let start = l.n;
+        l.add(start, Record::new(Counts::one_of(t), size, SINGLE, [t as u16, 0]))?;
+        l.enter(start);
+    }
+    l.singles = l.n;
+    let demands = demands(job);
+    let mut p = 0;
+    while p < l.n {
+        l.add_next(p, types, demands)?;
+        p = l.records[p].end as usize;
+    }
+    Ok(l.n)
 }
 
-// All pairs of records, a test of packed counts, and open hashing: what was there before.
-pub fn all_pairs(job: &Job, room: usize) -> Option<usize> {
-    let n = job.types.len();
-    let mut dem = [0u8; TYPES]; for i in 0..n { dem[i] = job.types[i][3] as u8 }
-    let dem = packed(&dem, 0);
-    let mut v: Vec<(u64, u64, u32, u32)> = vec![]; let mut table = vec![0u32; 1 << 18];
-    fn put(v: &mut Vec<(u64, u64, u32, u32)>, table: &mut [u32], o: (u64, u64, u32, u32), room: usize) -> bool {
-        let mut h = ((o.0.wrapping_mul(0x9E37_79B9_7F4A_7C15) ^ o.1.wrapping_mul(0xC2B2_AE3D_27D4_EB4F) ^ ((o.2 as u64) << 16 | o.3 as u64).wrapping_mul(0x1656_67B1_9E37_79F9)) >> 46) as usize;
-        while table[h] != 0 { if v[table[h] as usize - 1] == o { return true } h = (h + 1) & ((1 << 18) - 1); }
-        if v.len() == room { return false } v.push(o); table[h] = v.len() as u32; true
+/// The records so far, and a table of their places plus 1, by counts and size.
+struct Hashed<'a> {
+    records: &'a mut [Record],
+    n: usize,
+    table: Vec<u16>,
+}
+
+impl Hashed<'_> {
+    fn add(&mut self, new: Record) -> Result<(), Full> {
+        let size = (new.size[0] as u64) << 16 | new.size[1] as u64;
+        let mut h = (new.counts().mixed() ^ size.wrapping_mul(0x1656_67B1_9E37_79F9)) as usize >> 46;
+        while self.table[h] != 0 {
+            let r = &self.records[self.table[h] as usize - 1];
+            if r.counts() == new.counts() && r.size == new.size {
+                return Ok(());
+            }
+            h = (h + 1) % self.table.len();
+        }
+        *self.records.get_mut(self.n).ok_or(Full)? = new;
+        self.n += 1;
+        self.table[h] = self.n as u16;
+        Ok(())
     }
-    for i in 0..n { let t = job.types[i]; if t[0] <= job.size[0] && t[1] <= job.size[1] { let o = one(i); if !put(&mut v, &mut table, (o.0, o.1, t[0], t[1]), room) { return None } } }
+}
+
+/// Lists all outlines of a job that is in range by joining each record with all up to itself, both ways: how many.
+pub fn all_pairs(job: &Job, records: &mut [Record]) -> Result<usize, Full> {
+    let mut l = Hashed { records, n: 0, table: vec![0; 1 << 18] };
+    for (t, size) in singles(job) {
+        l.add(Record::new(Counts::one_of(t), size, SINGLE, [t as u16, 0]))?;
+    }
+    let (sides, demands) = (sides(job), demands(job));
     let mut i = 0;
-    while i < v.len() {
-        for q in 0..=i {
-            let (a, b) = (v[i], v[q]); let c = (a.0 + b.0, a.1 + b.1);
-            if within(c, dem) {
-                if a.2 + b.2 <= job.size[0] && !put(&mut v, &mut table, (c.0, c.1, a.2 + b.2, a.3.max(b.3)), room) { return None }
-                if a.3 + b.3 <= job.size[1] && !put(&mut v, &mut table, (c.0, c.1, a.2.max(b.2), a.3 + b.3), room) { return None }
+    while i < l.n {
+        let a = l.records[i];
+        let room = demands.less(a.counts());
+        for k in 0..=i {
+            let b = l.records[k];
+            if b.counts().within(room) {
+                for way in 0..2 {
+                    if a.size[way] + b.size[way] <= sides[way] {
+                        l.add(Record::new(a.counts().plus(b.counts()), join(a.size, b.size, way), joined(way), [i as u16, k as u16]))?;
+                    }
+                }
             }
         }
         i += 1;
     }
-    Some(v.len())
+    Ok(l.n)
 }
 
-pub fn read(p: &str) -> Job {
-    let t = std::fs::read_to_string(p).unwrap(); let v: Vec<u32> = t.split_whitespace().map(|x| x.parse().unwrap()).collect();
-    Job { size: [v[1], v[2]], types: v[5..].chunks(4).map(|q| [q[0] + v[3], q[1] + v[3], q[2], q[3]]).collect() }
+fn profit(job: &Job, counts: Counts) -> u64 {
+    job.types[..job.count as usize].iter().enumerate().map(|(t, p)| counts.of(t) * p.profit).sum()
 }
-pub fn strip(d: &[u32]) -> Job { Job { size: [100, 1], types: d.iter().map(|&b| [1, 1, 1, b]).collect() } }
 
-fn main() {
-    let dir = std::env::args().nth(1).expect("the folder of jobs");
-    let slow = std::env::args().nth(2).is_some();
-    let mut jobs: Vec<(String, Job)> = ["P1", "P3", "P4", "P7", "P8", "PG1", "PG4"].iter().map(|p| (p.to_string(), read(&format!("{dir}/{p}.job")))).collect();
-    jobs.push(("strip 2000".into(), strip(&[2, 22, 28]))); jobs.push(("strip 65279".into(), strip(&[14, 15, 15, 16])));
-    let mut arena = vec![0u8; 65_535 * RECORD];
-    for (name, j) in &jobs {
-        for marks in [false, true] {
-            if !marks && !slow { continue }
-            let mut best = f64::MAX; let mut got = (None, Steps::default());
-            for _ in 0..if name.len() > 10 { 1 } else { 5 } { let t = Instant::now(); got = list_outlines(j, &mut arena, marks); best = best.min(t.elapsed().as_secs_f64()); }
-            println!("{name}, marks {marks}: {:?} in {:.1} ms; {:?}", got.0, best * 1e3, got.1);
+/// The record of the greatest profit; among those of the least length, then width, then of the counts that come first.
+fn best(job: &Job, records: &[Record]) -> usize {
+    let rank = |r: &Record| (profit(job, r.counts()), std::cmp::Reverse((r.size, r.counts().order())));
+    (0..records.len()).max_by_key(|&i| rank(&records[i])).unwrap()
+}
+
+/// Lays a record with its corner at a place into the front of the buffer: how many numbers its placements take up.
+fn lay(records: &[Record], i: usize, corner: [u64; 2], buffer: &mut [u64]) -> usize {
+    let r = &records[i];
+    if r.how == SINGLE {
+        buffer[..3].copy_from_slice(&[r.halves[0] as u64 + 1, corner[0], corner[1]]);
+        return 3;
+    }
+    let way = r.how as usize - 1;
+    let [first, second] = r.halves.map(|half| half as usize);
+    let mut behind = corner;
+    behind[way] += records[first].size[way] as u64;
+    let n = lay(records, first, corner, buffer);
+    n + lay(records, second, behind, &mut buffer[n..])
+}
+
+/// Puts placements in order of y, then x, by insertion.
+fn order(list: &mut [u64]) {
+    let key = |list: &[u64], i: usize| (list[3 * i + 2], list[3 * i + 1]);
+    for i in 1..list.len() / 3 {
+        let mut k = i;
+        while 0 < k && key(list, k) < key(list, k - 1) {
+            let (before, here) = list.split_at_mut(3 * k);
+            before[3 * k - 3..].swap_with_slice(&mut here[..3]);
+            k -= 1;
         }
-        if slow { let t = Instant::now(); let r = all_pairs(j, 65_535); println!("  all pairs: {:?} in {:.1} ms", r, t.elapsed().as_secs_f64() * 1e3); }
+    }
+}
+
+/// How outlines are listed.
+pub type Method = fn(&Job, &mut [Record]) -> Result<usize, Full>;
+
+fn refused(number: u64) -> Answer {
+    [number, 0, 0, 0, 0, 0, 0]
+}
+
+/// All outlines are listed: the best one's plan, in front of the buffer.
+fn plan_listed(job: &Job, records: &[Record], buffer: &mut [u64]) -> Answer {
+    let top = best(job, records);
+    let Record { size, .. } = records[top];
+    let counts = records[top].counts();
+    if buffer.len() as u64 / 3 < counts.pieces() {
+        return refused(5);
+    }
+    let numbers = lay(records, top, [0, 0], buffer);
+    order(&mut buffer[..numbers]);
+    [0, 0, profit(job, counts), size[0] as u64, size[1] as u64, counts.pieces(), records.len() as u64]
+}
+
+/// Plans a job that is in range.
+pub fn plan_job(job: &Job, arena: &mut [Record], buffer: &mut [u64], list: Method) -> Answer {
+    if singles(job).next().is_none() {
+        return refused(3);
+    }
+    let room = arena.len().min(RECORDS_MOST);
+    let answer = match list(job, &mut arena[..room]) {
+        Err(Full) => refused(4),
+        Ok(n) => plan_listed(job, &arena[..n], buffer),
+    };
+    arena.fill(Record::default());
+    answer
+}
+
+/// Plans a job, or says why its text or numbers are refused.
+pub fn plan(job: Result<Job, [u64; 2]>, arena: &mut [Record], buffer: &mut [u64], list: Method) -> Answer {
+    match job {
+        Err([number, place]) => [number, place, 0, 0, 0, 0, 0],
+        Ok(job) => plan_job(&job, arena, buffer, list),
     }
 }

@@ -208,6 +208,10 @@ module _ {job : Job} {least : Least} {s : List ℕ} {start n a : ℕ} {c : List 
           by across i lo hi q x y able _ (inl z) = let r = second i q lo hi x y in w .grown .has .1 z i lo hi q (r .0) (r .1)
           by across i lo hi q x y able _ (inr z) = none across (g z) i q lo hi x (second i q lo hi x y) able
 
+      -- in neither way
+      pub rest-none : Apart along → Apart across → Came job start c (ClassPairs job least s start c a) s n s n
+      rest-none f g = rest-joins false false (λ _. f) (λ _. g) (came-self job (h .ready .held) (h .growing) (λ x. absurd (true≢false (sym x)), λ x. absurd (true≢false (sym x))))
+
       pub rest-comes : (beside above : Bool) → (beside ≡ false → Apart along) → (above ≡ false → Apart across) → (t : List ℕ) (r : Listed) → Comes job start (pairOf job s a b) (WaysWith job beside above s a b) s n t r → Comes job start c (ClassPairs job least s start c a) s n t r
       rest-comes beside above f g t (Complete m) w = rest-joins beside above f g (subst (λ d. Came job start d (WaysWith job beside above s a b) s n t m) whole-pair w)
       rest-comes beside above f g t Full w = w

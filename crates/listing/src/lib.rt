@@ -162,6 +162,11 @@ fn add_class(
         Found::At(b) => {
             let along = fits_if(beside, job, arena, a, b, Way::Beside);
             let across = fits_if(above, job, arena, a, b, Way::Above);
+            if !along {
+                if !across {
+                    return Listed::Complete(n);
+                }
+            }
             add_ways(along, across, job, arena, start, n, a, b)
         }
     }

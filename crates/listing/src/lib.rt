@@ -20,12 +20,13 @@ ghost use Rattle.rules.specs.Box.{across};
 ghost use Rattle.rules.specs.Limits.{typesMost};
 ghost use Rattle.rules.proofs.Classes.{turned, oneMore};
 ghost use Rattle.rules.specs.Planner.{roomOf};
-ghost use Rattle.outline.specs.Stands.{JobInRange, wayOf, LeastOf, leastBy};
+ghost use Rattle.outline.specs.Stands.{wayOf, LeastOf, leastBy};
 ghost use Rattle.classes.specs.Directory.{Directory};
 ghost use Rattle.outlines.specs.Listing.{StartsIn, SingleIn, Lists};
 ghost use Rattle.growing.specs.Growing.{Growing, Comes, pairOf};
 ghost use Rattle.growing.specs.Rows.{Facing, TooLarge, Rowsable, RowsWith};
 ghost use Rattle.listing.specs.Queue.{keyAt, piecesAt, WholeIn, NextIn, Turn, HalfAt, Queued, Follows, Idle, Standing, WaysWith, Halving, ClassPairs, Sought, PairsBefore, Target, Source, SinglesTo, SinglesGrow, Closed};
+ghost use Rattle.shapes.specs.Handed.{JobInRange};
 
 // From a class on, the first with more than half of `most` pieces.
 fn half_of(arena: &[u8], from: usize, n: usize, most: usize, types: usize) -> usize

@@ -11,11 +11,12 @@ use lib.Seq.{take-at, drop-at, length-take-le, ext-getD, getD-take, getD-drop, g
 use Rattle.rules.specs.Limits.{typesMost, recordBytes}
 use Rattle.rules.specs.Planner.{roomOf}
 use Rattle.outline.specs.Stands.{twoBytes}
+use Rattle.rules.proofs.Outlines.{atMost}
 use Rattle.rules.proofs.Unfold.{noRec, at}
 use Rattle.arena.specs.declared.Record.{Record}
 use Rattle.arena.specs.Bytes.{word, putWord, howOf, lengthAt, widthAt, firstAt, secondAt, kindAt, encode, decode, chunk, putChunk}
-use Rattle.arena.specs.Records.{recordAt, sizeOf, recOf, recs, Storable, Stored, StoredAlone, linksMost, linksAt, linkPlace, linkAt, Linkable, Linked}
-use Rattle.arena.proofs.Codec.{decode-encode, length-encode, length-put}
+use Rattle.arena.specs.Records.{recordAt, sizeOf, recOf, recs, Storable, Stored, StoredAlone, linksMost, linksAt, linkPlace, linkAt, Linkable, Linked, byteMost, UnboundedPast}
+use Rattle.arena.proofs.Codec.{decode-encode, length-encode, length-put, at-most-past}
 
 -- a record of the room has its bytes
 pub room-bytes : (i n : ℕ) → i < roomOf n → i * recordBytes + recordBytes ≤ n
@@ -93,6 +94,14 @@ count-at s i t h = sym (getD-take typesMost (chunk s i) t 0 h ∙ chunk-at s i t
 pub counts-in : (s : List ℕ) (i : ℕ) → take typesMost (take (i * recordBytes + recordBytes - i * recordBytes) (drop (i * recordBytes) s)) ≡ recordAt s i .outline .counts
 unfolding chunk decode
 counts-in s i = let e : i * recordBytes + recordBytes - i * recordBytes ≡ recordBytes = omega arith in rw e
+
+-- counts that are bytes keep to bounds on the first types, and on no others, where the first ones do
+pub within-bounds : (s : List ℕ) (i types : ℕ) (c r : List ℕ) → length r ≡ typesMost → ((m : ℕ) → getD s m 0 ≤ byteMost) → UnboundedPast types c r → atMost (recordAt s i .outline .counts) r ≡ atMost (take types (recordAt s i .outline .counts)) (take types c)
+unfolding decode
+within-bounds s i types c r l b u =
+    let n = length-take typesMost (chunk s i) in
+    at-most-past types (recordAt s i .outline .counts) r (omega arith) (λ k h m. let q : k < typesMost = omega arith in omega (arith, u .past k h q, count-at s i k q, b (i * recordBytes + k)))
+    ∙ ap (atMost (take types (recordAt s i .outline .counts))) (u .bounds)
 
 -- a word of a record is a word of the arena
 word-chunk : (s : List ℕ) (i at m : ℕ) → at + 1 < recordBytes → m ≡ i * recordBytes + at → word s m ≡ word (chunk s i) at

@@ -11,7 +11,8 @@ use shapes::RECORDS_MOST;
 use shapes::TYPES_MOST;
 ghost use mathlib.Core.Path.{_≡_};
 ghost use mathlib.Core.Bool.{true};
-ghost use Prim.Native.Nat.{_+_, _*_, _≤_, _<_, _-_};
+ghost use mathlib.Core.List.{List};
+ghost use Prim.Native.Nat.{ℕ, _+_, _*_, _≤_, _<_, _-_};
 ghost use lib.ListN.{length, getD, take, replicate};
 ghost use Rattle.rules.specs.Limits.{recordBytes, typesMost};
 ghost use Rattle.rules.specs.Bag.{sum};
@@ -21,7 +22,7 @@ ghost use Rattle.rules.proofs.Outlines.{sameList, sameOutline, atMost};
 ghost use Rattle.rules.proofs.Classes.{oneMore};
 ghost use Rattle.outline.specs.Stands.{outlineOf, twoBytes};
 ghost use Rattle.arena.specs.Bytes.{word, putWord, behind, linkOf, howOf, encode, decode};
-ghost use Rattle.arena.specs.Records.{recordAt, sizeOf, byteMost, countsMost, linkAt, linksMost, Storable, StoredAlone, Loaded, Linkable, Linked};
+ghost use Rattle.arena.specs.Records.{recordAt, sizeOf, byteMost, countsMost, linkAt, linksMost, Storable, StoredAlone, Loaded, Linkable, Linked, UnboundedPast};
 
 // A piece of a type, numbered from 1, or a join of two records that stand before.
 pub enum How {
@@ -46,6 +47,9 @@ const SECOND_AT: usize = 18;
 const KIND_AT: usize = 20;
 
 const LINKS_AT: usize = 22;
+
+// The most that a count can be.
+const BYTE_MOST: u8 = 255;
 
 // `How` in numbers: 0 for a piece, 1 for a join beside, 2 for a join above.
 pub struct Link {
@@ -311,30 +315,44 @@ pub fn count_at(arena: &[u8], i: usize, t: usize) -> u8
     arena[i * RECORD_BYTES + t]
 }
 
-// The first n counts of a record are at most these.
-fn within(s: &[u8], counts: [u8; TYPES_MOST], n: usize) -> bool
-    requires { ⌜ (length (now s) ≡ recordBytes) × (n ≤ typesMost) ⌝ }
-    ensures { λ r. ⌜ r ≡ atMost (take n (take typesMost (now (s .entry)))) (take n counts) ⌝ }
+// These counts, with no bound on the types past so many.
+pub fn unbounded_past(counts: [u8; TYPES_MOST], types: usize) -> [u8; TYPES_MOST]
+    ensures { λ r. ⌜ UnboundedPast types counts r ⌝ }
 {
+    let mut r = counts;
+    let mut i = types;
+    while i < TYPES_MOST {
+        r[i] = BYTE_MOST;
+        i += 1;
+    }
+    r
+}
+
+// The counts of a record are at most these. All are compared, without an early end: so the loop becomes a few instructions for all at once.
+fn within(s: &[u8], counts: [u8; TYPES_MOST]) -> bool
+    requires { ⌜ length (now s) ≡ recordBytes ⌝ }
+    ensures { λ r. ⌜ r ≡ atMost (take typesMost (now (s .entry))) counts ⌝ }
+{
+    let mut fit = true;
     let mut i = 0;
-    while i < n {
+    while i < TYPES_MOST {
         let at = i;
         i += 1;
         if counts[at] < s[at] {
-            return false;
+            fit = false;
         }
     }
-    true
+    fit
 }
 
-// Record i has no more of any type than these counts, for a job of so many types.
-pub fn within_at(arena: &[u8], i: usize, counts: [u8; TYPES_MOST], types: usize) -> bool
-    requires { ⌜ (i < roomOf (length (now arena))) × (types ≤ typesMost) ⌝ }
-    ensures { λ r. ⌜ r ≡ atMost (take types (recordAt (now (arena .entry)) i .outline .counts)) (take types counts) ⌝ }
+// Record i has no more of any type than these counts, which bound some types and no others.
+pub fn within_at(arena: &[u8], i: usize, counts: [u8; TYPES_MOST]) -> bool
+    requires { ⌜ i < roomOf (length (now arena)) ⌝ }
+    ensures { λ r. ⌜ ((types : ℕ) (c : List ℕ) → UnboundedPast types c counts → r ≡ atMost (take types (recordAt (now (arena .entry)) i .outline .counts)) (take types c)) ⌝ }
 {
     let at = i * RECORD_BYTES;
     let end = at + RECORD_BYTES;
-    within(&arena[at..end], counts, types)
+    within(&arena[at..end], counts)
 }
 
 // These counts less the first n of a record.

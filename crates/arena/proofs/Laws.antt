@@ -7,7 +7,7 @@ use native.Mathlib.Omega.{arith}
 use native.Mathlib.Numerals.{add-one}
 use native.Mathlib.Decide.{ℕ-discrete, decLt}
 use lib.ListN.{length, getD, set, take, drop, length-set, length-take, length-drop, length-append, List·getD-append}
-use lib.Seq.{take-at, drop-at, length-take-le, ext-getD, getD-take, getD-drop, getD-at, getD-append-add, getD-set-same, getD-set-other}
+use lib.Seq.{take-at, drop-at, take-take, length-take-le, ext-getD, getD-take, getD-drop, getD-at, getD-append-add, getD-set-same, getD-set-other}
 use Rattle.rules.specs.Limits.{typesMost, recordBytes}
 use Rattle.rules.specs.Planner.{roomOf}
 use Rattle.outline.specs.Stands.{twoBytes}
@@ -15,7 +15,7 @@ use Rattle.rules.proofs.Outlines.{atMost}
 use Rattle.rules.proofs.Unfold.{noRec, at}
 use Rattle.arena.specs.declared.Record.{Record}
 use Rattle.arena.specs.Bytes.{word, putWord, howOf, lengthAt, widthAt, firstAt, secondAt, kindAt, encode, decode, chunk, putChunk}
-use Rattle.arena.specs.Records.{recordAt, sizeOf, recOf, recs, Storable, Stored, StoredAlone, linksMost, linksAt, linkPlace, linkAt, Linkable, Linked, byteMost, UnboundedPast}
+use Rattle.arena.specs.Records.{recordAt, sizeOf, recOf, recs, Storable, Stored, StoredAlone, linksMost, linksAt, linkPlace, linkAt, Linkable, Linked, byteMost, boundsMost, BoundsOf}
 use Rattle.arena.proofs.Codec.{decode-encode, length-encode, length-put, at-most-past}
 
 -- a record of the room has its bytes
@@ -95,13 +95,17 @@ pub counts-in : (s : List ℕ) (i : ℕ) → take typesMost (take (i * recordByt
 unfolding chunk decode
 counts-in s i = let e : i * recordBytes + recordBytes - i * recordBytes ≡ recordBytes = omega arith in rw e
 
--- counts that are bytes keep to bounds on the first types, and on no others, where the first ones do
-pub within-bounds : (s : List ℕ) (i types : ℕ) (c r : List ℕ) → length r ≡ typesMost → ((m : ℕ) → getD s m 0 ≤ byteMost) → UnboundedPast types c r → atMost (recordAt s i .outline .counts) r ≡ atMost (take types (recordAt s i .outline .counts)) (take types c)
-unfolding decode
+-- a record keeps to the bounds where its counts do: every byte keeps to the others
+pub within-bounds : (s : List ℕ) (i types : ℕ) (c r : List ℕ) → length r ≡ boundsMost → ((m : ℕ) → getD s m 0 ≤ byteMost) → BoundsOf types c r → atMost (take boundsMost (take (i * recordBytes + recordBytes - i * recordBytes) (drop (i * recordBytes) s))) r ≡ atMost (take types (recordAt s i .outline .counts)) (take types c)
+unfolding chunk decode
 within-bounds s i types c r l b u =
-    let n = length-take typesMost (chunk s i) in
-    at-most-past types (recordAt s i .outline .counts) r (omega arith) (λ k h m. let q : k < typesMost = omega arith in omega (arith, u .past k h q, count-at s i k q, b (i * recordBytes + k)))
-    ∙ ap (atMost (take types (recordAt s i .outline .counts))) (u .bounds)
+    let e : i * recordBytes + recordBytes - i * recordBytes ≡ recordBytes = omega arith in
+    let d = take boundsMost (chunk s i) in
+    let n = length-take boundsMost (chunk s i) in
+    let f = u .few in
+    ap (λ k. atMost (take boundsMost (take k (drop (i * recordBytes) s))) r) e
+    ∙ at-most-past types d r (omega arith) (λ k h m. let q : k < boundsMost = omega arith in omega (arith, u .behind k h q, getD-take boundsMost (chunk s i) k 0 q, chunk-at s i k (omega arith), b (i * recordBytes + k)))
+    ∙ ap₂ atMost (take-take types boundsMost (chunk s i) (omega arith) ∙ sym (take-take types typesMost (chunk s i) f)) (u .counts)
 
 -- a word of a record is a word of the arena
 word-chunk : (s : List ℕ) (i at m : ℕ) → at + 1 < recordBytes → m ≡ i * recordBytes + at → word s m ≡ word (chunk s i) at

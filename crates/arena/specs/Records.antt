@@ -91,7 +91,12 @@ pub record Loaded (d r : Record) : Type 0 where
   pub is : r ≡ d
   pub sized : Sized (r .outline)
 
--- r bounds the first counts as c does, and those past them not at all
-pub record UnboundedPast (types : ℕ) (c r : List ℕ) : Type 0 where
-  pub bounds : take types r ≡ take types c
-  pub past : (i : ℕ) → types ≤ i → i < typesMost → getD r i 0 ≡ byteMost
+-- so many bytes of a record are compared with bounds at once
+abbrev pub boundsMost : ℕ
+boundsMost = 16
+
+-- r bounds the counts of so many types by c, and no byte behind them
+pub record BoundsOf (types : ℕ) (c r : List ℕ) : Type 0 where
+  pub few : types ≤ typesMost
+  pub counts : take types r ≡ take types c
+  pub behind : (i : ℕ) → types ≤ i → i < boundsMost → getD r i 0 ≡ byteMost

@@ -22,7 +22,7 @@ ghost use Rattle.rules.proofs.Outlines.{sameList, sameOutline, atMost};
 ghost use Rattle.rules.proofs.Classes.{oneMore};
 ghost use Rattle.outline.specs.Stands.{outlineOf, twoBytes};
 ghost use Rattle.arena.specs.Bytes.{word, putWord, behind, linkOf, howOf, encode, decode};
-ghost use Rattle.arena.specs.Records.{recordAt, sizeOf, byteMost, countsMost, linkAt, linksMost, Storable, StoredAlone, Loaded, Linkable, Linked, UnboundedPast};
+ghost use Rattle.arena.specs.Records.{recordAt, sizeOf, byteMost, countsMost, linkAt, linksMost, Storable, StoredAlone, Loaded, Linkable, Linked, boundsMost, BoundsOf};
 
 // A piece of a type, numbered from 1, or a join of two records that stand before.
 pub enum How {
@@ -48,7 +48,10 @@ const KIND_AT: usize = 20;
 
 const LINKS_AT: usize = 22;
 
-// The most that a count can be.
+// So many bytes are compared with bounds at once: the counts, and a few behind them that have no bound.
+pub const BOUNDS: usize = 16;
+
+// The bound of a byte that has none.
 const BYTE_MOST: u8 = 255;
 
 // `How` in numbers: 0 for a piece, 1 for a join beside, 2 for a join above.
@@ -315,44 +318,45 @@ pub fn count_at(arena: &[u8], i: usize, t: usize) -> u8
     arena[i * RECORD_BYTES + t]
 }
 
-// These counts, with no bound on the types past so many.
-pub fn unbounded_past(counts: [u8; TYPES_MOST], types: usize) -> [u8; TYPES_MOST]
-    ensures { λ r. ⌜ UnboundedPast types counts r ⌝ }
+// These counts as bounds, for a job of so many types.
+pub fn bounds_of(counts: [u8; TYPES_MOST], types: usize) -> [u8; BOUNDS]
+    requires { ⌜ types ≤ typesMost ⌝ }
+    ensures { λ r. ⌜ BoundsOf types counts r ⌝ }
 {
-    let mut r = counts;
-    let mut i = types;
-    while i < TYPES_MOST {
-        r[i] = BYTE_MOST;
+    let mut r = [BYTE_MOST; BOUNDS];
+    let mut i = 0;
+    while i < types {
+        r[i] = counts[i];
         i += 1;
     }
     r
 }
 
-// The counts of a record are at most these. All are compared, without an early end: so the loop becomes a few instructions for all at once.
-fn within(s: &[u8], counts: [u8; TYPES_MOST]) -> bool
+// The first bytes of a record are at most these. All are compared, without an early end: so the loop becomes one comparison of all at once.
+fn within(s: &[u8], bounds: [u8; BOUNDS]) -> bool
     requires { ⌜ length (now s) ≡ recordBytes ⌝ }
-    ensures { λ r. ⌜ r ≡ atMost (take typesMost (now (s .entry))) counts ⌝ }
+    ensures { λ r. ⌜ r ≡ atMost (take boundsMost (now (s .entry))) bounds ⌝ }
 {
     let mut fit = true;
     let mut i = 0;
-    while i < TYPES_MOST {
+    while i < BOUNDS {
         let at = i;
         i += 1;
-        if counts[at] < s[at] {
+        if bounds[at] < s[at] {
             fit = false;
         }
     }
     fit
 }
 
-// Record i has no more of any type than these counts, which bound some types and no others.
-pub fn within_at(arena: &[u8], i: usize, counts: [u8; TYPES_MOST]) -> bool
+// Record i has no more of any type than the counts that these bounds are of.
+pub fn within_at(arena: &[u8], i: usize, bounds: [u8; BOUNDS]) -> bool
     requires { ⌜ i < roomOf (length (now arena)) ⌝ }
-    ensures { λ r. ⌜ ((types : ℕ) (c : List ℕ) → UnboundedPast types c counts → r ≡ atMost (take types (recordAt (now (arena .entry)) i .outline .counts)) (take types c)) ⌝ }
+    ensures { λ r. ⌜ ((types : ℕ) (c : List ℕ) → BoundsOf types c bounds → r ≡ atMost (take types (recordAt (now (arena .entry)) i .outline .counts)) (take types c)) ⌝ }
 {
     let at = i * RECORD_BYTES;
     let end = at + RECORD_BYTES;
-    within(&arena[at..end], counts)
+    within(&arena[at..end], bounds)
 }
 
 // These counts less the first n of a record.

@@ -160,7 +160,7 @@ fn grow_class(
     requires { ⌜ Sought job least (now arena) start half (take (job .count) counts) ⌝ }
     ensures { λ r. ⌜ Comes job start (take (job .count) counts) (PairsBefore job least (now (arena .entry)) start (take (job .count) counts) half) (now (arena .entry)) start (now (arena .exit)) r ⌝ }
 {
-    let bounds = arena::unbounded_past(counts, job.count as usize);
+    let bounds = arena::bounds_of(counts, job.count as usize);
     let mut n = start;
     let mut p = 0;
     while p < half {

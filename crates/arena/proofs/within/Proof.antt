@@ -1,21 +1,21 @@
--- `arena::within` meets its contract. The invariant: `fit` says whether the first i counts are at most these. Assumes nothing.
+-- `arena::within` meets its contract. The invariant: `fit` says whether the first i bytes are at most these. Assumes nothing.
 use Prim.Native.Nat.{_+_, _-_, _≤_}
 use native.Mathlib.Omega.{arith}
 use mathlib.Core.Path.{_≡_, refl, sym, ap, _∙_}
 use lib.ListN.{take}
-use Rattle.rules.specs.Limits.{typesMost}
 use Rattle.rules.proofs.Outlines.{atMost}
 use Rattle.outline.proofs.Laws.{at-most-here}
+use Rattle.arena.specs.Records.{boundsMost}
 use Rattle.arena.proofs.Codec.{at-most-next}
 use borrow.Author.Needs.{needs}
 use Rattle.arena.proofs.within.Statement.{statement}
 use Rattle.arena.proofs.within.Tie as tie
 
 abbrev Inv-loop : tie.InvT-loop
-Inv-loop s counts fit₀ i₀ fit i = (i ≤ typesMost) × (fit ≡ atMost (take i s) counts)
+Inv-loop s bounds fit₀ i₀ fit i = (i ≤ boundsMost) × (fit ≡ atMost (take i s) bounds)
 
 abbrev μ-loop : tie.MeasureT-loop
-μ-loop s counts fit₀ i₀ fit i = typesMost - i
+μ-loop s bounds fit₀ i₀ fit i = boundsMost - i
 
 loop-holds : tie.Need-loop-holds Inv-loop μ-loop
 loop-holds c = (search needs, refl)
@@ -51,7 +51,7 @@ returns : tie.Need-returns Inv-loop μ-loop
 returns c =
     let lo = c .before .loop in
     let st = c .before .before in
-    let e : lo .i ≡ typesMost = omega arith in
+    let e : lo .i ≡ boundsMost = omega arith in
     lo .inv .1 ∙ ap (λ n. atMost (take n (st .args .s .now)) (st .args .t2)) e
 
 pub within-spec : {M : Type 1} → statement M

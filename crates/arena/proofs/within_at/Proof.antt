@@ -1,8 +1,7 @@
 -- `arena::within_at` meets its contract. Assumes nothing.
 use native.Mathlib.Omega.{arith}
-use mathlib.Core.Path.{ap, _∙_}
-use Rattle.rules.proofs.Outlines.{atMost}
-use Rattle.arena.proofs.Laws.{counts-in, within-bounds}
+use mathlib.Core.Path.{_∙_}
+use Rattle.arena.proofs.Laws.{within-bounds}
 use borrow.Author.Needs.{needs}
 use Rattle.arena.proofs.within_at.Statement.{statement}
 use Rattle.arena.proofs.within_at.Tie as tie
@@ -29,8 +28,7 @@ returns : tie.Need-returns
 returns c =
     let known = c .before .before in
     let g = known .before .args in
-    λ types d u. c .within .ensures ∙ ap (λ l. atMost l (g .counts)) (counts-in (g .arena .now) (g .i))
-    ∙ within-bounds (g .arena .now) (g .i) types d (g .counts) (search needs) (λ m. omega (arith, known .shared-slice-known .given m)) u
+    λ types d u. c .within .ensures ∙ within-bounds (g .arena .now) (g .i) types d (g .bounds) (search needs) (λ m. omega (arith, known .shared-slice-known .given m)) u
 
 pub within-at-spec : {M : Type 1} → statement M
 within-at-spec =

@@ -15,8 +15,8 @@ Inv-loop job arena₀ start half counts least bounds n₀ p₀ arena n p = Walki
 abbrev μ-loop : tie.MeasureT-loop
 μ-loop job arena₀ start half counts least bounds n₀ p₀ arena n p = half - p
 
-unbounded-past-requires : tie.Need-unbounded-past-requires Inv-loop μ-loop
-unbounded-past-requires c κs = search needs
+bounds-of-requires : tie.Need-bounds-of-requires Inv-loop μ-loop
+bounds-of-requires c κs = c .before .pre .ready .range .count
 
 loop-holds : tie.Need-loop-holds Inv-loop μ-loop
 loop-holds c = walk-start (c .before .before .pre)
@@ -44,7 +44,7 @@ add-class-requires c κs =
     let il = wi .before .before .before .before in
     let at = il .before in
     let st = at .before .before .before in
-    walk-halving (st .pre) (at .loop .inv) (il .loop-test .taken) (sym (wi .within-at .ensures _ _ (at .before .unbounded-past .ensures)) ∙ y .if1 .taken)
+    walk-halving (st .pre) (at .loop .inv) (il .loop-test .taken) (sym (wi .within-at .ensures _ _ (at .before .bounds-of .ensures)) ∙ y .if1 .taken)
 
 enum-told : tie.Need-enum-told Inv-loop μ-loop
 enum-told c = search needs
@@ -102,7 +102,7 @@ loop-again-2 c =
     let at = il .before in
     let st = at .before .before .before in
     subst (Walking (st .args .job) (st .args .least) (st .args .arena .now) (st .args .start) (take (st .args .job .count) (st .args .counts)) _ _) (sym (en .end-of .ensures .0))
-    (walk-past (st .pre) (at .loop .inv) (il .loop-test .taken) (sym (wi .within-at .ensures _ _ (at .before .unbounded-past .ensures)) ∙ c .if1 .left))
+    (walk-past (st .pre) (at .loop .inv) (il .loop-test .taken) (sym (wi .within-at .ensures _ _ (at .before .bounds-of .ensures)) ∙ c .if1 .left))
 
 same-length-2 : tie.Need-same-length-2 Inv-loop μ-loop
 same-length-2 c = c .before .loop .inv .came .kept .same-length
@@ -119,7 +119,7 @@ grow-class-spec =
     (tie.spec
     Inv-loop
     μ-loop
-    unbounded-past-requires
+    bounds-of-requires
     loop-holds
     end-of-requires
     within-at-requires

@@ -132,6 +132,7 @@ same-all (suc n) [] b l m p = absurd (omega arith)
 same-all (suc n) (x ∷ a) [] l m p = absurd (omega arith)
 same-all (suc n) (x ∷ a) (y ∷ b) l m p = both-and (eq-eqb x y (p 0 (omega arith))) (same-all n a b (omega arith) (omega arith) (λ i h. p (suc i) (omega arith)))
 
+-- one place more, where there is no more than the bound
 pub at-most-next : (i : ℕ) (c ds : List ℕ) → i < length ds → getD c i 0 ≤ getD ds i 0 → atMost (take (i + 1) c) ds ≡ atMost (take i c) ds
 at-most-next i c ds h p = ap (λ n. atMost (take n c) ds) (add-one i) ∙ go i c ds h p
   where
@@ -142,7 +143,7 @@ at-most-next i c ds h p = ap (λ n. atMost (take n c) ds) (add-one i) ∙ go i c
     go zero (x ∷ c) (d ∷ ds) h p = both-and (le-leb x d p) refl
     go (suc i) (x ∷ c) (d ∷ ds) h p = ap (λ b. leb x d && b) (go i c ds (omega arith) p)
 
--- bounds that all counts past the first n keep to
+-- the places past the first n do not count, where there is no more than the bounds
 pub at-most-past : (n : ℕ) (c ds : List ℕ) → length c ≤ length ds → ((i : ℕ) → n ≤ i → i < length c → getD c i 0 ≤ getD ds i 0) → atMost c ds ≡ atMost (take n c) (take n ds)
 at-most-past zero [] ds l p = refl
 at-most-past (suc n) [] ds l p = refl

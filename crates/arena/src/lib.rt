@@ -48,7 +48,7 @@ const KIND_AT: usize = 20;
 
 const LINKS_AT: usize = 22;
 
-// So many bytes are compared with bounds at once: the counts, and a few behind them that have no bound.
+// A machine compares so many bytes at once: the counts of a record, and a few bytes behind them that get no bound.
 pub const BOUNDS: usize = 16;
 
 // The bound of a byte that has none.
@@ -332,7 +332,7 @@ pub fn bounds_of(counts: [u8; TYPES_MOST], types: usize) -> [u8; BOUNDS]
     r
 }
 
-// The first bytes of a record are at most these. All are compared, without an early end: so the loop becomes one comparison of all at once.
+// The first bytes of a record are at most these. There is no early end, so that the loop becomes one comparison: most records are over somewhere, and nothing foretells where.
 fn within(s: &[u8], bounds: [u8; BOUNDS]) -> bool
     requires { ⌜ length (now s) ≡ recordBytes ⌝ }
     ensures { λ r. ⌜ r ≡ atMost (take boundsMost (now (s .entry))) bounds ⌝ }

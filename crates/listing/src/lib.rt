@@ -185,13 +185,13 @@ fn grow_class(
     requires { ⌜ Sought job least (now arena) start half (take (job .count) counts) ⌝ }
     ensures { λ r. ⌜ Comes job start (take (job .count) counts) (PairsBefore job least (now (arena .entry)) start (take (job .count) counts) half) (now (arena .entry)) start (now (arena .exit)) r ⌝ }
 {
-    let types = job.count as usize;
+    let bounds = arena::bounds_of(counts, job.count as usize);
     let mut n = start;
     let mut p = 0;
     while p < half {
         let a = p;
         p = classes::end_of(arena, a);
-        if arena::within_at(arena, a, counts, types) {
+        if arena::within_at(arena, a, bounds) {
             match add_class(job, arena, start, n, a, counts, least) {
                 Listed::Full => {
                     return Listed::Full;

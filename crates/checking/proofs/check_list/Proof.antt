@@ -51,7 +51,7 @@ returns-2 : tie.Need-returns-2
 returns-2 c =
     let known = c .before in
     let st = known .before .before .before .before in
-    verdict-in-range (st .args .job) (st .args .list .now) (none-out known) (same-numbers (st .args .job) (fine-job known .room) (none-out known)) (c .check-in-range .ensures)
+    verdict-in-range (st .args .job) (st .args .list .now) (none-out known) (same-numbers (st .args .job) (fine-job known .types) (none-out known)) (c .check-in-range .ensures)
 
 pub check-list-spec : {M : Type 1} → statement M
 check-list-spec =

@@ -9,7 +9,7 @@
 //! oracle check                         checks the plan text on standard input
 //! oracle gen KIND SEED COUNT           writes COUNT random cases of a kind
 //! oracle tables                        writes the rows of document 01 as cases
-//! oracle tables large|strips           writes rows with up to 65,536 outlines
+//! oracle tables large|strips           writes rows around 65,535 outlines
 //! oracle answers CASES                 prints the expected answer lines
 //! oracle verify CASES ANSWERS          compares answer lines with the expected
 //! oracle cross SEED COUNT              plans random jobs by both methods

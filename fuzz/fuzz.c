@@ -57,6 +57,15 @@ __attribute__((destructor)) static void tell(void)
 
 static size_t within(uint64_t n) { return n < 63 ? n : 63; }
 
+/* N up to 31 as it is, above that four steps from one power of 2 to the next. */
+static size_t step(uint64_t n)
+{
+    size_t steps = 0;
+    for (; n >= 32; n /= 2)
+        steps += 4;
+    return within(steps ? 28 + steps + (n - 16) / 4 : n);
+}
+
 static void note(int function, uint64_t number, const uint64_t *a, size_t room)
 {
     given[function][number]++;
@@ -64,7 +73,7 @@ static void note(int function, uint64_t number, const uint64_t *a, size_t room)
     if (number == 0 && room >= VARANDECO_CHECK_ANSWER)
         seen[function][1][number][within(a[room >= VARANDECO_PLAN_ANSWER ? VARANDECO_PLAN_PIECES : VARANDECO_CHECK_PIECES])] = 1;
     if (number == 0 && room >= VARANDECO_PLAN_ANSWER)
-        seen[function][2][number][within(a[VARANDECO_PLAN_OUTLINES])] = 1;
+        seen[function][2][number][step(a[VARANDECO_PLAN_OUTLINES])] = 1;
 }
 
 static struct lent arena, plan, answer, text, job, list;
@@ -156,13 +165,16 @@ static void see_promise(void)
     MUST(a[VARANDECO_PROFIT] == p[VARANDECO_PROFIT] && a[VARANDECO_CHECK_PIECES] == p[VARANDECO_PLAN_PIECES]);
 }
 
+/* Any number up to 191, and some up to 1,984. */
+static size_t records(uint8_t b) { return b < 192 ? b : (size_t)(b - 191) * 31; }
+
 int LLVMFuzzerTestOneInput(const uint8_t *data, size_t size)
 {
     static uint64_t scratch[4096];
     if (size < 4)
         return 0;
     const uint8_t *at = data + 4, *end = data + size;
-    lend(&arena, (size_t)data[1] * VARANDECO_RECORD_BYTES + data[3] % 32);
+    lend(&arena, records(data[1]) * VARANDECO_RECORD_BYTES + data[3] % 32);
     lend(&plan, 8 * ((size_t)(data[2] % 64) * 3 + data[3] % 3));
     lend(&answer, 8 * (data[0] / 4 % 4 == 0 ? data[0] / 16 : data[0] % 2 == 0 ? VARANDECO_PLAN_ANSWER : VARANDECO_CHECK_ANSWER));
     int function = data[0] % 4, tamed = data[0] >= 128;

@@ -1,5 +1,5 @@
 /* Plans published jobs through the static library, with the largest arena, and compares with a table (examples/published/TABLE).
- * published FOLDER WHEN..: the rows of the table whose second word is one of WHEN. */
+ * published FOLDER: every row of the folder's TABLE. */
 #include <inttypes.h>
 #include <stdio.h>
 #include <stdlib.h>
@@ -11,12 +11,12 @@ static uint8_t arena[VARANDECO_RECORDS_MOST * VARANDECO_RECORD_BYTES];
 static uint64_t plan[VARANDECO_PLAN_NUMBERS];
 static char text[65536];
 
-/* What the processor worked, whatever else the machine did. */
-static double seconds(void)
+/* What the processor worked so far, whatever else the machine did. */
+static double milliseconds(void)
 {
     struct timespec t;
     clock_gettime(CLOCK_PROCESS_CPUTIME_ID, &t);
-    return t.tv_sec + t.tv_nsec * 1e-9;
+    return t.tv_sec * 1e3 + t.tv_nsec * 1e-6;
 }
 
 /* The job text into `text`; its length. */
@@ -52,9 +52,9 @@ static int row(const char *folder, const char *name, char *rest)
     uint64_t answer[VARANDECO_PLAN_ANSWER], expected[VARANDECO_PLAN_ANSWER], counts[VARANDECO_TYPES_MOST + 1] = {0}, profit = 0;
     size_t length = read_job(folder, name);
     memset(arena, 0xa5, sizeof arena);
-    double start = seconds();
+    double start = milliseconds();
     varandeco_plan_text((const uint8_t *)text, length, arena, sizeof arena, plan, VARANDECO_PLAN_NUMBERS, answer, VARANDECO_PLAN_ANSWER);
-    double took = seconds() - start;
+    double took = milliseconds() - start;
     int good = 1;
     for (int i = 0; i < VARANDECO_PLAN_ANSWER; i++) {
         expected[i] = strtoull(rest, &rest, 10);
@@ -68,7 +68,7 @@ static int row(const char *folder, const char *name, char *rest)
             good = good && counts[t] == strtoull(rest, &rest, 10);
         good = good && counts[0] == 0 && check_plan(length, pieces, &profit) == VARANDECO_DONE && profit == answer[VARANDECO_PROFIT];
     }
-    printf("%-4s %s  number %" PRIu64 " place %" PRIu64 " profit %" PRIu64 " outline %" PRIu64 " by %" PRIu64 " pieces %" PRIu64 " N %" PRIu64 "  (%.2f s)\n", name, good ? "ok" : "DIFFERS",
+    printf("%-4s %s  number %" PRIu64 " place %" PRIu64 " profit %" PRIu64 " outline %" PRIu64 " by %" PRIu64 " pieces %" PRIu64 " N %" PRIu64 "  (%.1f ms)\n", name, good ? "ok" : "DIFFERS",
            answer[0], answer[1], answer[2], answer[3], answer[4], answer[5], answer[6], took);
     fflush(stdout);
     return good;
@@ -76,22 +76,19 @@ static int row(const char *folder, const char *name, char *rest)
 
 int main(int argc, char **argv)
 {
-    char path[1024], line[512], name[64], when[64];
+    char path[1024], line[512], name[64];
     int rows = 0, bad = 0, at;
-    if (argc < 3)
+    if (argc != 2)
         return 2;
     snprintf(path, sizeof path, "%s/TABLE", argv[1]);
     FILE *table = fopen(path, "r");
     if (!table)
         return 2;
     while (fgets(line, sizeof line, table)) {
-        if (line[0] == '#' || sscanf(line, "%63s %63s %n", name, when, &at) < 2)
+        if (line[0] == '#' || sscanf(line, "%63s %n", name, &at) < 1)
             continue;
-        for (int i = 2; i < argc; i++)
-            if (strcmp(when, argv[i]) == 0) {
-                rows++;
-                bad += !row(argv[1], name, line + at);
-            }
+        rows++;
+        bad += !row(argv[1], name, line + at);
     }
     fclose(table);
     printf("published: %d jobs planned, %d differ\n", rows, bad);

@@ -1,18 +1,18 @@
 -- The laws of the codec: a record that is written is read back, field by field. Assumes nothing.
 use mathlib.Core.Path.{_≡_, refl, sym, ap, _∙_}
-use mathlib.Core.Bool.{true, false}
+use mathlib.Core.Bool.{true, false, _&&_}
 use mathlib.Core.List.{List, [], _∷_, _++_, append-nil}
 use Prim.Native.Nat.{ℕ, zero, suc, _+_, _*_, _-_, _/_, _%_, _≤_, _<_}
 use native.Mathlib.Omega.{arith}
 use native.Mathlib.Numerals.{add-one}
-use lib.Dec.{eqb}
+use lib.Dec.{eqb, leb}
 use lib.ListN.{length, getD, set, take, drop, replicate, length-set, length-take, length-drop, length-append, drop-of-length-le}
 use lib.Seq.{take-at, drop-at, getD-take, getD-append-add, take-set-lt}
-use borrow.Author.Tests.{eq-eqb, ne-eqb}
+use borrow.Author.Tests.{eq-eqb, ne-eqb, le-leb}
 use Rattle.rules.specs.Limits.{typesMost, recordBytes}
 use Rattle.rules.specs.Job.{plus}
 use Rattle.rules.proofs.Bools.{and-false-left, and-false-right, both-and}
-use Rattle.rules.proofs.Outlines.{sameList}
+use Rattle.rules.proofs.Outlines.{sameList, atMost}
 use Rattle.rules.proofs.Classes.{oneMore, more-set}
 use Rattle.outline.specs.declared.Way.the-variants.{Beside, Above}
 use Rattle.arena.specs.declared.How.{How}
@@ -131,6 +131,25 @@ same-all zero a b l m p = refl
 same-all (suc n) [] b l m p = absurd (omega arith)
 same-all (suc n) (x ∷ a) [] l m p = absurd (omega arith)
 same-all (suc n) (x ∷ a) (y ∷ b) l m p = both-and (eq-eqb x y (p 0 (omega arith))) (same-all n a b (omega arith) (omega arith) (λ i h. p (suc i) (omega arith)))
+
+-- one place more, where there is no more than the bound
+pub at-most-next : (i : ℕ) (c ds : List ℕ) → i < length ds → getD c i 0 ≤ getD ds i 0 → atMost (take (i + 1) c) ds ≡ atMost (take i c) ds
+at-most-next i c ds h p = ap (λ n. atMost (take n c) ds) (add-one i) ∙ go i c ds h p
+  where
+    go : (i : ℕ) (c ds : List ℕ) → i < length ds → getD c i 0 ≤ getD ds i 0 → atMost (take (suc i) c) ds ≡ atMost (take i c) ds
+    go zero [] ds h p = refl
+    go (suc i) [] ds h p = refl
+    go i (x ∷ c) [] h p = absurd (omega arith)
+    go zero (x ∷ c) (d ∷ ds) h p = both-and (le-leb x d p) refl
+    go (suc i) (x ∷ c) (d ∷ ds) h p = ap (λ b. leb x d && b) (go i c ds (omega arith) p)
+
+-- the places past the first n do not count, where there is no more than the bounds
+pub at-most-past : (n : ℕ) (c ds : List ℕ) → length c ≤ length ds → ((i : ℕ) → n ≤ i → i < length c → getD c i 0 ≤ getD ds i 0) → atMost c ds ≡ atMost (take n c) (take n ds)
+at-most-past zero [] ds l p = refl
+at-most-past (suc n) [] ds l p = refl
+at-most-past n (x ∷ c) [] l p = absurd (omega arith)
+at-most-past zero (x ∷ c) (d ∷ ds) l p = both-and (le-leb x d (p 0 (omega arith) (omega arith))) (at-most-past zero c ds (omega arith) (λ i h k. p (suc i) (omega arith) (omega arith)))
+at-most-past (suc n) (x ∷ c) (d ∷ ds) l p = ap (λ b. leb x d && b) (at-most-past n c ds (omega arith) (λ i h k. p (suc i) (omega arith) (omega arith)))
 
 -- counts that are added up place by place
 pub plus-all : (n : ℕ) (a b c : List ℕ) → n ≤ length a → n ≤ length b → n ≤ length c → ((i : ℕ) → i < n → getD a i 0 + getD b i 0 ≡ getD c i 0) → plus (take n a) (take n b) ≡ take n c

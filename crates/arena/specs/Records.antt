@@ -1,8 +1,8 @@
 -- The arena as a list of records: what a record stands for, and what reading and writing one does. Assumes nothing.
 use mathlib.Core.Path.{_≡_}
 use mathlib.Core.List.{List, [], _∷_, _++_}
-use Prim.Native.Nat.{ℕ, zero, suc, _+_, _*_, _<_}
-use lib.ListN.{length}
+use Prim.Native.Nat.{ℕ, zero, suc, _+_, _*_, _≤_, _<_}
+use lib.ListN.{length, getD, take}
 use Rattle.rules.specs.Limits.{typesMost, recordBytes}
 use Rattle.rules.specs.Planner.{roomOf}
 use Rattle.rules.proofs.Unfold.{Maker, piece, joined, Rec}
@@ -90,3 +90,13 @@ pub record Linked (i k v : ℕ) (before after : List ℕ) : Type 0 where
 pub record Loaded (d r : Record) : Type 0 where
   pub is : r ≡ d
   pub sized : Sized (r .outline)
+
+-- so many bytes of a record are compared with bounds at once
+abbrev pub boundsMost : ℕ
+boundsMost = 16
+
+-- r bounds the counts of so many types by c, and no byte behind them
+pub record BoundsOf (types : ℕ) (c r : List ℕ) : Type 0 where
+  pub few : types ≤ typesMost
+  pub counts : take types r ≡ take types c
+  pub behind : (i : ℕ) → types ≤ i → i < boundsMost → getD r i 0 ≡ byteMost

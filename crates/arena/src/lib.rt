@@ -11,7 +11,8 @@ use shapes::RECORDS_MOST;
 use shapes::TYPES_MOST;
 ghost use mathlib.Core.Path.{_≡_};
 ghost use mathlib.Core.Bool.{true};
-ghost use Prim.Native.Nat.{_+_, _*_, _≤_, _<_, _-_};
+ghost use mathlib.Core.List.{List};
+ghost use Prim.Native.Nat.{ℕ, _+_, _*_, _≤_, _<_, _-_};
 ghost use lib.ListN.{length, getD, take, replicate};
 ghost use Rattle.rules.specs.Limits.{recordBytes, typesMost};
 ghost use Rattle.rules.specs.Bag.{sum};
@@ -21,7 +22,7 @@ ghost use Rattle.rules.proofs.Outlines.{sameList, sameOutline, atMost};
 ghost use Rattle.rules.proofs.Classes.{oneMore};
 ghost use Rattle.outline.specs.Stands.{outlineOf, twoBytes};
 ghost use Rattle.arena.specs.Bytes.{word, putWord, behind, linkOf, howOf, encode, decode};
-ghost use Rattle.arena.specs.Records.{recordAt, sizeOf, byteMost, countsMost, linkAt, linksMost, Storable, StoredAlone, Loaded, Linkable, Linked};
+ghost use Rattle.arena.specs.Records.{recordAt, sizeOf, byteMost, countsMost, linkAt, linksMost, Storable, StoredAlone, Loaded, Linkable, Linked, boundsMost, BoundsOf};
 
 // A piece of a type, numbered from 1, or a join of two records that stand before.
 pub enum How {
@@ -46,6 +47,12 @@ const SECOND_AT: usize = 18;
 const KIND_AT: usize = 20;
 
 const LINKS_AT: usize = 22;
+
+// A machine compares so many bytes at once: the counts of a record, and a few bytes behind them that get no bound.
+pub const BOUNDS: usize = 16;
+
+// The bound of a byte that has none.
+const BYTE_MOST: u8 = 255;
 
 // `How` in numbers: 0 for a piece, 1 for a join beside, 2 for a join above.
 pub struct Link {
@@ -311,30 +318,45 @@ pub fn count_at(arena: &[u8], i: usize, t: usize) -> u8
     arena[i * RECORD_BYTES + t]
 }
 
-// The first n counts of a record are at most these.
-fn within(s: &[u8], counts: [u8; TYPES_MOST], n: usize) -> bool
-    requires { ⌜ (length (now s) ≡ recordBytes) × (n ≤ typesMost) ⌝ }
-    ensures { λ r. ⌜ r ≡ atMost (take n (take typesMost (now (s .entry)))) (take n counts) ⌝ }
+// These counts as bounds, for a job of so many types.
+pub fn bounds_of(counts: [u8; TYPES_MOST], types: usize) -> [u8; BOUNDS]
+    requires { ⌜ types ≤ typesMost ⌝ }
+    ensures { λ r. ⌜ BoundsOf types counts r ⌝ }
 {
+    let mut r = [BYTE_MOST; BOUNDS];
     let mut i = 0;
-    while i < n {
-        let at = i;
+    while i < types {
+        r[i] = counts[i];
         i += 1;
-        if counts[at] < s[at] {
-            return false;
-        }
     }
-    true
+    r
 }
 
-// Record i has no more of any type than these counts, for a job of so many types.
-pub fn within_at(arena: &[u8], i: usize, counts: [u8; TYPES_MOST], types: usize) -> bool
-    requires { ⌜ (i < roomOf (length (now arena))) × (types ≤ typesMost) ⌝ }
-    ensures { λ r. ⌜ r ≡ atMost (take types (recordAt (now (arena .entry)) i .outline .counts)) (take types counts) ⌝ }
+// The first bytes of a record are at most these. There is no early end, so that the loop becomes one comparison: most records are over somewhere, and nothing foretells where.
+fn within(s: &[u8], bounds: [u8; BOUNDS]) -> bool
+    requires { ⌜ length (now s) ≡ recordBytes ⌝ }
+    ensures { λ r. ⌜ r ≡ atMost (take boundsMost (now (s .entry))) bounds ⌝ }
+{
+    let mut fit = true;
+    let mut i = 0;
+    while i < BOUNDS {
+        let at = i;
+        i += 1;
+        if bounds[at] < s[at] {
+            fit = false;
+        }
+    }
+    fit
+}
+
+// Record i has no more of any type than the counts that these bounds are of.
+pub fn within_at(arena: &[u8], i: usize, bounds: [u8; BOUNDS]) -> bool
+    requires { ⌜ i < roomOf (length (now arena)) ⌝ }
+    ensures { λ r. ⌜ ((types : ℕ) (c : List ℕ) → BoundsOf types c bounds → r ≡ atMost (take types (recordAt (now (arena .entry)) i .outline .counts)) (take types c)) ⌝ }
 {
     let at = i * RECORD_BYTES;
     let end = at + RECORD_BYTES;
-    within(&arena[at..end], counts, types)
+    within(&arena[at..end], bounds)
 }
 
 // These counts less the first n of a record.

@@ -5,8 +5,7 @@ ghost use Rattle.rules.specs.Numbers.{entries};
 ghost use Rattle.rules.specs.Checker.{Checked};
 ghost use Rattle.rules.specs.Answers.{CheckNumbers};
 ghost use Rattle.shapes.specs.Answer.{checkAnswer};
-ghost use Rattle.shapes.specs.Handed.{itemsOf, numbersOf};
-ghost use Rattle.placing.specs.Place.{Fine};
+ghost use Rattle.shapes.specs.Handed.{itemsOf, numbersOf, JobInRange};
 ghost use Rattle.laying.specs.Laid.{Ready};
 use jobs::Item;
 use jobs::first_out_of_range;
@@ -53,7 +52,7 @@ fn check_laid(job: Job, list: &[u64]) -> CheckVerdict
 }
 
 fn check_in_range(job: Job, list: &[u64]) -> CheckVerdict
-    requires { ⌜ Fine job ⌝ }
+    requires { ⌜ JobInRange job ⌝ }
     ensures { λ r. ⌜ Checked (numbersOf job) (entries (now (list .entry))) (checkAnswer r) ⌝ }
 {
     if let Place::At(i) = first_not_a_type(job, list) {

@@ -8,8 +8,9 @@ use Rattle.rules.specs.Limits.{profitMost}
 use Rattle.rules.specs.Job.{NotAfter, AtLeastAsGood}
 use Rattle.rules.specs.Planner.{roomOf}
 use Rattle.shapes.specs.declared.Job.{Job}
+use Rattle.shapes.specs.Handed.{JobInRange}
 use Rattle.outline.specs.declared.Outline.{Outline}
-use Rattle.outline.specs.Stands.{JobInRange, jobFor, outlineOf}
+use Rattle.outline.specs.Stands.{jobFor, outlineOf}
 use Rattle.arena.specs.Records.{recordAt}
 
 -- what pieces of a type earn, and that it stays small

@@ -8,8 +8,9 @@ ghost use Prim.Native.Nat.{_*_, _≤_, _<_};
 ghost use lib.ListN.{length, take};
 ghost use Rattle.rules.specs.Limits.{typesMost, profitMost};
 ghost use Rattle.rules.specs.Job.{profit, pieces};
-ghost use Rattle.outline.specs.Stands.{JobInRange, jobFor, outlineOf};
+ghost use Rattle.outline.specs.Stands.{jobFor, outlineOf};
 ghost use Rattle.choice.specs.Best.{Earned, InTurn, Better, Choosable, Top};
+ghost use Rattle.shapes.specs.Handed.{JobInRange};
 
 // What so many pieces of a type earn.
 fn earned(count: u8, each: u64) -> u64

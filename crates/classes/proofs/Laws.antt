@@ -2,12 +2,12 @@
 use mathlib.Core.Path.{_≡_, refl, sym, ap, _∙_, subst}
 use mathlib.Core.Bool.{true, false, true≢false}
 use mathlib.Core.List.{List, [], _∷_}
-use Prim.Native.Nat.{ℕ, zero, suc, _+_, _≤_, _<_}
+use Prim.Native.Nat.{ℕ, zero, suc, _+_, _*_, _/_, _≤_, _<_}
 use native.Mathlib.Omega.{arith}
-use native.Mathlib.Nat.{mod-lt}
+use native.Mathlib.Nat.{mod-lt, mul-comm, mul-lt-mul-of-pos-right, div-lt-iff-lt-mul}
 use native.Mathlib.Numerals.{add-one}
 use native.Mathlib.Decide.{ℕ-discrete, decLt}
-use lib.Dec.{eqb}
+use lib.Dec.{eqb, lit<}
 use lib.ListN.{length, getD, take, drop, replicate, length-take, drop-of-length-le}
 use lib.Seq.{drop-cons, getD-take}
 use borrow.Author.Tests.{eqb-true, eq-eqb}
@@ -197,6 +197,19 @@ weighing-end types c sum i h l =
     let e : drop i (take types c) ≡ [] = drop-of-length-le (take types c) z in
     sym (ap (weighed sum) e) ∙ h .total
 
+-- a part of so many buckets is one of them
+pub within-range : {x buckets : ℕ} → x < weightMost → 0 < buckets → x * buckets / weightMost < buckets
+within-range {x} {buckets} h k = div-lt-iff-lt-mul {k = weightMost} (lit< tt) .1 (subst (λ v. x * buckets < v) (mul-comm weightMost buckets) (mul-lt-mul-of-pos-right h k))
+
+pub weighed-small : (w : ℕ) (c : List ℕ) → w < weightMost → weighed w c < weightMost
+unfolding weighed
+weighed-small w [] h = h
+weighed-small w (x ∷ c) h = weighed-small (weigh w x) c (mod-lt _ (omega arith))
+
+pub bucket-below : (buckets : ℕ) (c : List ℕ) → 0 < buckets → bucketOf buckets c < buckets
+unfolding bucketOf
+bucket-below buckets c h = within-range (weighed-small 0 c (omega arith)) h
+
 -- looking for counts
 same-list : (a : List ℕ) → sameList a a ≡ true
 same-list [] = refl
@@ -307,8 +320,7 @@ module _ {types : ℕ} {s t : List ℕ} {start n h : ℕ} {c : List ℕ} (a : En
       next e (subst (λ y. Reach t y p) (sym (w .chains q i)) (reach-stays (subst (λ y. Chain types s start (linkAt s y chainLink)) f g) r))
 
   bucket-room : (b : List ℕ) → bucketOf (roomOf (length s)) b < roomOf (length s)
-  unfolding bucketOf
-  bucket-room b = mod-lt _ (omega (arith, a .room, a .some))
+  bucket-room b = bucket-below _ b (omega (arith, a .room, a .some))
 
   -- the new class in front of its bucket's
   from-head : (b p : ℕ) → b < roomOf (length s) → Reach s (linkAt s b headLink) p → Reach t (linkAt t b headLink) p
@@ -451,8 +463,7 @@ module _ {types : ℕ} {s t : List ℕ} {start n : ℕ} (d : Directory types s s
       next e (subst (λ y. Reach t y p) (sym (a .links q chainLink i (omega arith))) (reach-kept (subst (λ y. Chain types s start (linkAt s y chainLink)) f g) r))
 
   bucket-in : 0 < start → (b : List ℕ) → bucketOf (roomOf (length s)) b < roomOf (length s)
-  unfolding bucketOf
-  bucket-in h b = mod-lt _ (omega (arith, d .room))
+  bucket-in h b = bucket-below _ b (omega (arith, d .room))
 
   pub class-kept : (p : ℕ) → Class types s start p → Class types t start p
   class-kept p k =

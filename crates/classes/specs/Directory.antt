@@ -1,7 +1,7 @@
 -- The classes of the arena, and how one is found by its counts. Assumes nothing.
 use mathlib.Core.Path.{_≡_}
 use mathlib.Core.List.{List, [], _∷_}
-use Prim.Native.Nat.{ℕ, suc, _+_, _*_, _%_, _≤_, _<_}
+use Prim.Native.Nat.{ℕ, suc, _+_, _*_, _/_, _%_, _≤_, _<_}
 use lib.ListN.{length, take}
 use Rattle.rules.specs.Planner.{roomOf}
 use Rattle.arena.specs.declared.Record.{Record}
@@ -14,18 +14,18 @@ use Rattle.classes.specs.Orders.{InOrderOf}
 abbrev pub weightMost : ℕ
 weightMost = 4_294_967_296
 
--- one count more
+-- one count more, spread over the whole range
 abbrev pub weigh : ℕ → ℕ → ℕ
-weigh w c = (w * 31 + c) % weightMost
+weigh w c = (w + c) * 2_654_435_769 % weightMost
 
 -- counts weighed one after the other
 unfoldable pub weighed : ℕ → List ℕ → ℕ
 weighed w [] = w
 weighed w (c ∷ cs) = weighed (weigh w c) cs
 
--- the bucket of counts, out of so many
+-- the bucket of counts, out of so many: as far among them as the number is in its range
 unfoldable pub bucketOf : ℕ → List ℕ → ℕ
-bucketOf buckets c = weighed 0 c % buckets
+bucketOf buckets c = weighed 0 c * buckets / weightMost
 
 -- which link is which
 abbrev pub endLink : ℕ

@@ -1,5 +1,5 @@
 -- Joins of whole classes into a class that grows. Assumes nothing.
-use mathlib.Core.Path.{_≡_, sym, ap, ap₂, _∙_, subst}
+use mathlib.Core.Path.{_≡_, refl, sym, ap, ap₂, _∙_, subst}
 use mathlib.Core.List.{List, _++_, Memᴰ·append-left, Memᴰ·cast}
 use Prim.Native.Nat.{ℕ, _+_, _≤_, _<_}
 use native.Mathlib.Omega.{arith}
@@ -17,11 +17,11 @@ use Rattle.outline.specs.Stands.{jobFor, wayOf}
 use Rattle.arena.specs.Records.{recordAt, sizeOf, linkAt}
 use Rattle.classes.specs.Orders.{sizeIn, namedIn}
 use Rattle.classes.specs.Directory.{countsAt, endLink, Class, Directory, Kept}
-use Rattle.classes.proofs.Laws.{counts-stay, class-kept, row-stops, row-whole}
+use Rattle.classes.proofs.Laws.{counts-stay, class-kept, row-stops, row-whole, first-least}
 use Rattle.outlines.specs.Listing.{outlinesIn, noOutline, Held, JoinIn}
 use Rattle.outlines.proofs.Laws.{outline-at}
 use Rattle.growing.specs.Growing.{Growing, Came, pairOf, Pairable}
-use Rattle.growing.specs.Rows.{numberOf, sideOf, OfClass, RowWith, RowsWith, Rowable, Rowsable}
+use Rattle.growing.specs.Rows.{numberOf, sideOf, OfClass, RowWith, RowsWith, Rowable, Rowsable, Facing, TooLarge}
 use Rattle.growing.proofs.Laws.{came-self, came-with, came-then, fits-side}
 
 -- a way's number, as the code holds it
@@ -224,3 +224,15 @@ module _ {job : Job} {start : ℕ} {way : code.Way} {w side end least a b : ℕ}
         gone-stop (g .gone) least side (omega (arith, h, size-stays z (g .gone .came .kept) w i (y .before), ap (sizeIn s w) (y .is)))
         (λ j lo hi l q x v. join-large job (g .gone .came) z way w j q (g .number) (omega (arith, hi, g .asked .first .ends)) (omega (arith, v, g .asked .class .ends))
         (row-whole o (λ p. sideOf job way < sizeIn s w j + sizeIn s w p) (row-stops o b (sizeIn s w j) (sideOf job way) (omega arith) (omega (arith, g .sheet, g .smallest, l))) q x v))
+
+-- the smallest of two classes are together too large for the sheet: so are all
+module _ {job : Job} {s : List ℕ} {a b : ℕ} (z : Facing job s a b) (way : code.Way) where
+  pub facing-room : (p : ℕ) → Class (job .count) s (z .upto) p → (namedIn s (numberOf way) p < roomOf (length s)) × (p < roomOf (length s))
+  facing-room p k =
+      let r = k .orders (numberOf way) (two-ways way refl) .within p (omega arith) (k .some) in
+      (omega (arith, r .1, k .ends, z .room), omega (arith, k .some, k .ends, z .room))
+
+  pub too-large : (w i q : ℕ) → w ≡ numberOf way → i ≡ namedIn s w a → q ≡ namedIn s w b → (side x y : ℕ) → side ≡ sideOf job way → x ≡ sizeIn s w i → y ≡ sizeIn s w q → side < x + y → TooLarge job way s a b
+  too-large w i q ew ei eq side x y es ex ey h j lo hi k klo khi =
+      let f : (n p : ℕ) → n ≡ namedIn s w p → sizeIn s w n ≡ sizeIn s (numberOf way) (namedIn s (numberOf way) p) = λ n p e. ap (sizeIn s w) e ∙ ap (λ v. sizeIn s v (namedIn s v p)) ew in
+      omega (arith, h, es, ex, ey, f i a ei, f q b eq, first-least (z .first .orders (numberOf way) (two-ways way refl)) j lo hi, first-least (z .class .orders (numberOf way) (two-ways way refl)) k klo khi)

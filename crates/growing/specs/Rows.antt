@@ -1,12 +1,15 @@
 -- Joins of whole classes into a class that grows. Assumes nothing.
 use mathlib.Core.List.{List}
-use Prim.Native.Nat.{ℕ, _≤_, _<_}
+use Prim.Native.Nat.{ℕ, _+_, _≤_, _<_}
+use lib.ListN.{length}
 use Rattle.rules.specs.Box.{Way}
 use Rattle.rules.specs.Job as rules
+use Rattle.rules.specs.Planner.{roomOf}
 use Rattle.shapes.specs.declared.Job.{Job}
 use Rattle.outline.specs.declared.Way as code
 use Rattle.outline.specs.declared.Way.the-variants.{Beside, Above}
 use Rattle.arena.specs.Records.{linkAt}
+use Rattle.classes.specs.Orders.{sizeIn}
 use Rattle.classes.specs.Directory.{endLink, Class}
 use Rattle.outlines.specs.Listing.{Ready, JoinIn}
 use Rattle.growing.specs.Growing.{Growing, pairOf}
@@ -44,3 +47,14 @@ pub record Rowsable (job : Job) (s : List ℕ) (start n a b : ℕ) : Type 0 wher
   pub first : Class (job .count) s start a
   pub class : Class (job .count) s start b
   pub growing : Growing (job .count) s start n (pairOf job s a b)
+
+-- two classes of the arena, wherever its records end
+pub record Facing (job : Job) (s : List ℕ) (a b : ℕ) : Type 0 where
+  pub upto : ℕ
+  pub room : upto ≤ roomOf (length s)
+  pub first : Class (job .count) s upto a
+  pub class : Class (job .count) s upto b
+
+-- each record of class a and each of class b are together larger in this way than the sheet
+abbrev pub TooLarge : Job → code.Way → List ℕ → (a b : ℕ) → Type 0
+TooLarge job way s a b = OfClass s a (λ i. OfClass s b (λ q. sideOf job way < sizeIn s (numberOf way) i + sizeIn s (numberOf way) q))

@@ -7,10 +7,11 @@ use outline::Way;
 use outlines::Listed;
 use shapes::Job;
 ghost use mathlib.Core.Path.{_≡_};
+ghost use mathlib.Core.Bool.{false};
 ghost use Rattle.outline.specs.Stands.{outlineOf, wayOf};
 ghost use Rattle.outlines.specs.Listing.{Told, Holds, OutlineIn, JoinIn};
 ghost use Rattle.growing.specs.Growing.{Absent, Comes, classOf, Growable, pairOf, Pairable};
-ghost use Rattle.growing.specs.Rows.{numberOf, sideOf, Rowable, RowWith, Rowsable, RowsWith};
+ghost use Rattle.growing.specs.Rows.{numberOf, sideOf, Rowable, RowWith, Rowsable, RowsWith, Facing, TooLarge};
 
 // The outline is one of the first n records', of which none before `start` has its counts.
 fn holds_from(arena: &[u8], start: usize, n: usize, o: Outline, types: usize) -> bool
@@ -172,4 +173,15 @@ pub fn add_rows(
         }
     }
     Listed::Complete(n)
+}
+
+// The smallest of class a and the smallest of class b fit behind each other in this way.
+pub fn smallest_fit(job: Job, arena: &[u8], a: usize, b: usize, way: Way) -> bool
+    requires { ⌜ Facing job (now arena) a b ⌝ }
+    ensures { λ r. ⌜ (r ≡ false → TooLarge job way (now (arena .entry)) a b) ⌝ }
+{
+    let w = number_of(way);
+    let x = arena::size_at(arena, arena::link_at(arena, a, w), w);
+    let y = arena::size_at(arena, arena::link_at(arena, b, w), w);
+    x + y <= side_of(job, way)
 }

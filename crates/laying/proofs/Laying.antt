@@ -41,7 +41,7 @@ module _ {j : Job} {flat was s : List ℕ} {i : ℕ} (ask : ToLay j flat was) (g
 
   pub box-room : Room s i (p .x) (t .length + j .kerf) (p .y) (t .width + j .kerf)
   box-room =
-      let range = ask .on-sheet .typed .fine .range in
+      let range = ask .on-sheet .typed .fine .numbers in
       record {
         there = omega (arith, ask .there, g .same-length);
         long = omega (arith, is-t .range .long .low);

@@ -16,9 +16,9 @@ use Rattle.rules.proofs.Halves.{whole-single}
 use Rattle.rules.proofs.Outlines.{fits}
 use Rattle.rules.proofs.Tally.{sum-unit}
 use Rattle.shapes.specs.declared.Job.{Job}
-use Rattle.shapes.specs.Handed.{numbersOf}
+use Rattle.shapes.specs.Handed.{numbersOf, JobInRange}
 use Rattle.outline.specs.declared.Outline.{Outline}
-use Rattle.outline.specs.Stands.{JobInRange, jobFor, outlineOf, Alone}
+use Rattle.outline.specs.Stands.{jobFor, outlineOf, Alone}
 use Rattle.outline.proofs.Laws.{types-count, getD-table}
 use Rattle.arena.specs.declared.How.the-variants.{Piece}
 use Rattle.arena.specs.declared.Record.{Record}

@@ -33,8 +33,8 @@ use Rattle.outlines.proofs.Laws.{length-outlines, outline-at}
 use Rattle.outlines.specs.declared.Listed.{Listed}
 use Rattle.outlines.specs.declared.Listed.the-variants.{Complete, Full}
 use Rattle.growing.specs.Growing.{Growing, Came, Comes, pairOf}
-use Rattle.growing.specs.Rows.{numberOf, sideOf, RowsWith, Rowsable}
-use Rattle.growing.proofs.Laws.{came-self, came-then, comes-then, came-with}
+use Rattle.growing.specs.Rows.{numberOf, sideOf, OfClass, RowsWith, Rowsable, Facing, TooLarge}
+use Rattle.growing.proofs.Laws.{fits-side, came-self, came-then, comes-then, came-with}
 use Rattle.growing.proofs.Rows.{join-stays, two-ways}
 use Rattle.listing.specs.Queue.{outlineAt, keyAt, Idle, Standing, WaysWith, PairsOf, Halving, ClassPairs, Sought, PairsBefore}
 
@@ -174,16 +174,45 @@ module _ {job : Job} {least : Least} {s : List ℕ} {start n a : ℕ} {c : List 
       pub rest-rows : Rowsable job s start n a b
       rest-rows = record { ready = h .ready; first = h .class; class = k; growing = subst (Growing (job .count) s start n) (sym whole-pair) (h .growing) }
 
-      rest-joins : (beside above : Bool) → (beside ≡ false → Idle job least s a along) → (above ≡ false → Idle job least s a across) → {t : List ℕ} {m : ℕ} → Came job start c (WaysWith job beside above s a b) s n t m → Came job start c (ClassPairs job least s start c a) s n t m
+      pub rest-facing : Facing job s a b
+      rest-facing = record { upto = start; room = h .growing .directory .room; first = h .class; class = k }
+
+      -- no record of class a that may be a first half in this way joins with one of class b
+      abbrev Apart : Way → Type 0
+      Apart w = OfClass s a (λ i. OfClass s b (λ q. Able (λ v. leastBy v least) (turned w) (outlineAt job s i) → rules.Fits (jobFor job) (join w (outlineAt job s i) (outlineAt job s q)) → ⊥))
+
+      pub apart : (way : code.Way) (can fit : Bool) → (can ≡ false → Idle job least s a (wayOf way)) → (fit ≡ false → (can ≡ false) ⊎ TooLarge job way s a b) → fit ≡ false → Apart (wayOf way)
+      apart way can fit f g e = by (g e)
+        where
+          by : (can ≡ false) ⊎ TooLarge job way s a b → Apart (wayOf way)
+          by (inl z) i lo hi q qlo qhi able x =
+              let be = h .growing .begins in
+              f z i lo hi able (outlineAt job s q) (build-at (h .ready) q (omega (arith, k .ends))) x
+          by (inr z) i lo hi q qlo qhi able x = omega (arith, z i lo hi q qlo qhi, fits-side job way (job .count) (recordAt s i .outline) (recordAt s q .outline) x)
+
+      rest-joins : (beside above : Bool) → (beside ≡ false → Apart along) → (above ≡ false → Apart across) → {t : List ℕ} {m : ℕ} → Came job start c (WaysWith job beside above s a b) s n t m → Came job start c (ClassPairs job least s start c a) s n t m
       rest-joins beside above f g {t} {m} w = came-with job w (λ i lo hi v q x y able. by v i lo hi q x y able (bool-cases beside) (bool-cases above))
         where
-          by : (v : Way) (i : ℕ) → a ≤ i → i < linkAt s a endLink → (q : ℕ) → q < start → pairOf job s i q ≡ c → Able (λ v. leastBy v least) (turned v) (outlineAt job s i) → (beside ≡ true) ⊎ (beside ≡ false) → (above ≡ true) ⊎ (above ≡ false) → JoinIn job v i q (outlinesIn job t m)
-          by along i lo hi q x y able (inl z) _ = let r = k .whole q x (rest-of rest e p i q lo hi x y ∙ sym is) in w .grown .has .0 z i lo hi q (r .0) (r .1)
-          by along i lo hi q x y able (inr z) _ = idle-in w along (f z) i lo hi q x able
-          by across i lo hi q x y able _ (inl z) = let r = k .whole q x (rest-of rest e p i q lo hi x y ∙ sym is) in w .grown .has .1 z i lo hi q (r .0) (r .1)
-          by across i lo hi q x y able _ (inr z) = idle-in w across (g z) i lo hi q x able
+          -- what adds up to the counts with a record of class a is of class b
+          second : (i q : ℕ) → a ≤ i → i < linkAt s a endLink → q < start → pairOf job s i q ≡ c → (b ≤ q) × (q < linkAt s b endLink)
+          second i q lo hi x y = k .whole q x (rest-of rest e p i q lo hi x y ∙ sym is)
 
-      pub rest-comes : (beside above : Bool) → (beside ≡ false → Idle job least s a along) → (above ≡ false → Idle job least s a across) → (t : List ℕ) (r : Listed) → Comes job start (pairOf job s a b) (WaysWith job beside above s a b) s n t r → Comes job start c (ClassPairs job least s start c a) s n t r
+          none : (v : Way) → Apart v → (i q : ℕ) → a ≤ i → i < linkAt s a endLink → q < start → (b ≤ q) × (q < linkAt s b endLink) → Able (λ u. leastBy u least) (turned v) (outlineAt job s i) → JoinIn job v i q (outlinesIn job t m)
+          none v z i q lo hi x r able fit =
+              let ei = outline-stays w i (omega (arith, h .class .ends)) in
+              absurd (z i lo hi q (r .0) (r .1) able (subst (rules.Fits (jobFor job)) (ap₂ (join v) ei (outline-stays w q x)) fit))
+
+          by : (v : Way) (i : ℕ) → a ≤ i → i < linkAt s a endLink → (q : ℕ) → q < start → pairOf job s i q ≡ c → Able (λ u. leastBy u least) (turned v) (outlineAt job s i) → (beside ≡ true) ⊎ (beside ≡ false) → (above ≡ true) ⊎ (above ≡ false) → JoinIn job v i q (outlinesIn job t m)
+          by along i lo hi q x y able (inl z) _ = let r = second i q lo hi x y in w .grown .has .0 z i lo hi q (r .0) (r .1)
+          by along i lo hi q x y able (inr z) _ = none along (f z) i q lo hi x (second i q lo hi x y) able
+          by across i lo hi q x y able _ (inl z) = let r = second i q lo hi x y in w .grown .has .1 z i lo hi q (r .0) (r .1)
+          by across i lo hi q x y able _ (inr z) = none across (g z) i q lo hi x (second i q lo hi x y) able
+
+      -- in neither way
+      pub rest-none : Apart along → Apart across → Came job start c (ClassPairs job least s start c a) s n s n
+      rest-none f g = rest-joins false false (λ _. f) (λ _. g) (came-self job (h .ready .held) (h .growing) (λ x. absurd (true≢false (sym x)), λ x. absurd (true≢false (sym x))))
+
+      pub rest-comes : (beside above : Bool) → (beside ≡ false → Apart along) → (above ≡ false → Apart across) → (t : List ℕ) (r : Listed) → Comes job start (pairOf job s a b) (WaysWith job beside above s a b) s n t r → Comes job start c (ClassPairs job least s start c a) s n t r
       rest-comes beside above f g t (Complete m) w = rest-joins beside above f g (subst (λ d. Came job start d (WaysWith job beside above s a b) s n t m) whole-pair w)
       rest-comes beside above f g t Full w = w
 

@@ -13,8 +13,9 @@ use Rattle.rules.proofs.Classes.{Below, NoneAfter, oneMore, turned}
 use Rattle.rules.proofs.Halves.{In, Whole, Able}
 use Rattle.rules.proofs.Outlines.{atMost}
 use Rattle.shapes.specs.declared.Job.{Job}
+use Rattle.shapes.specs.Handed.{JobInRange}
 use Rattle.outline.specs.declared.Least.{Least}
-use Rattle.outline.specs.Stands.{JobInRange, jobFor, outlineOf, LeastOf, leastBy}
+use Rattle.outline.specs.Stands.{jobFor, outlineOf, LeastOf, leastBy}
 use Rattle.arena.specs.Records.{recordAt}
 use Rattle.classes.specs.Directory.{countsAt, Begins, Class, Directory}
 use Rattle.outlines.specs.declared.Listed.{Listed}

@@ -12,18 +12,21 @@ use shapes::Job;
 use shapes::TYPES_MOST;
 ghost use mathlib.Core.Path.{_≡_};
 ghost use mathlib.Core.Bool.{true, false};
+ghost use mathlib.Core.Logic.{_⊎_};
 ghost use Prim.Native.Nat.{_<_, _≤_, suc};
 ghost use lib.ListN.{length, take};
 ghost use Rattle.rules.specs.Bag.{sum};
+ghost use Rattle.rules.specs.Box.{across};
 ghost use Rattle.rules.specs.Limits.{typesMost};
 ghost use Rattle.rules.proofs.Classes.{turned, oneMore};
 ghost use Rattle.rules.specs.Planner.{roomOf};
-ghost use Rattle.outline.specs.Stands.{JobInRange, wayOf, LeastOf, leastBy};
+ghost use Rattle.outline.specs.Stands.{wayOf, LeastOf, leastBy};
 ghost use Rattle.classes.specs.Directory.{Directory};
 ghost use Rattle.outlines.specs.Listing.{StartsIn, SingleIn, Lists};
 ghost use Rattle.growing.specs.Growing.{Growing, Comes, pairOf};
-ghost use Rattle.growing.specs.Rows.{Rowsable, RowsWith};
+ghost use Rattle.growing.specs.Rows.{Facing, TooLarge, Rowsable, RowsWith};
 ghost use Rattle.listing.specs.Queue.{keyAt, piecesAt, WholeIn, NextIn, Turn, HalfAt, Queued, Follows, Idle, Standing, WaysWith, Halving, ClassPairs, Sought, PairsBefore, Target, Source, SinglesTo, SinglesGrow, Closed};
+ghost use Rattle.shapes.specs.Handed.{JobInRange};
 
 // From a class on, the first with more than half of `most` pieces.
 fn half_of(arena: &[u8], from: usize, n: usize, most: usize, types: usize) -> usize
@@ -70,32 +73,42 @@ fn can_join(job: Job, arena: &[u8], a: usize, least: Least, way: Way) -> bool
     if growing::side_of(job, way) < smallest + least_of(least, way) {
         return false;
     }
-    if arena::pieces_at(arena, a, job.count as usize) == 1 {
-        return true;
-    }
     let turned = other(way);
     let v = growing::number_of(turned);
     let last = classes::end_of(arena, a) - 1;
     let largest = arena::size_at(arena, arena::link_at(arena, last, v), v);
-    2 * least_of(least, turned) <= largest
+    if 2 * least_of(least, turned) <= largest {
+        return true;
+    }
+    arena::pieces_at(arena, a, job.count as usize) == 1
 }
 
-// Joins classes a and b in this way if it can be.
-fn add_rows_if(
-    can: bool,
+// If class a can join in this way: whether its smallest fits behind the smallest of class b.
+fn fits_if(can: bool, job: Job, arena: &[u8], a: usize, b: usize, way: Way) -> bool
+    requires { ⌜ Facing job (now arena) a b ⌝ }
+    ensures { λ r. ⌜ (r ≡ false → (can ≡ false) ⊎ TooLarge job way (now (arena .entry)) a b) ⌝ }
+{
+    if can {
+        return growing::smallest_fit(job, arena, a, b, way);
+    }
+    false
+}
+
+// Joins classes a and b in the second way, if it can be.
+fn add_above(
+    above: bool,
     job: Job,
     arena: &mut [u8],
     start: usize,
     n: usize,
     a: usize,
     b: usize,
-    way: Way,
 ) -> Listed
     requires { ⌜ Rowsable job (now arena) start n a b ⌝ }
-    ensures { λ r. ⌜ Comes job start (pairOf job (now (arena .entry)) a b) (λ l. can ≡ true → RowsWith job (wayOf way) (now (arena .entry)) a b l) (now (arena .entry)) n (now (arena .exit)) r ⌝ }
+    ensures { λ r. ⌜ Comes job start (pairOf job (now (arena .entry)) a b) (λ l. above ≡ true → RowsWith job across (now (arena .entry)) a b l) (now (arena .entry)) n (now (arena .exit)) r ⌝ }
 {
-    if can {
-        return growing::add_rows(job, arena, start, n, a, b, way);
+    if above {
+        return growing::add_rows(job, arena, start, n, a, b, Way::Above);
     }
     Listed::Complete(n)
 }
@@ -114,9 +127,12 @@ fn add_ways(
     requires { ⌜ Rowsable job (now arena) start n a b ⌝ }
     ensures { λ r. ⌜ Comes job start (pairOf job (now (arena .entry)) a b) (WaysWith job beside above (now (arena .entry)) a b) (now (arena .entry)) n (now (arena .exit)) r ⌝ }
 {
-    match add_rows_if(beside, job, arena, start, n, a, b, Way::Beside) {
+    if !beside {
+        return add_above(above, job, arena, start, n, a, b);
+    }
+    match growing::add_rows(job, arena, start, n, a, b, Way::Beside) {
         Listed::Full => Listed::Full,
-        Listed::Complete(m) => add_rows_if(above, job, arena, start, m, a, b, Way::Above),
+        Listed::Complete(m) => add_above(above, job, arena, start, m, a, b),
     }
 }
 
@@ -144,7 +160,16 @@ fn add_class(
     let rest = arena::rest_at(arena, a, counts, types);
     match classes::find(arena, start, rest, types) {
         Found::Nowhere => Listed::Complete(n),
-        Found::At(b) => add_ways(beside, above, job, arena, start, n, a, b),
+        Found::At(b) => {
+            let along = fits_if(beside, job, arena, a, b, Way::Beside);
+            let across = fits_if(above, job, arena, a, b, Way::Above);
+            if !along {
+                if !across {
+                    return Listed::Complete(n);
+                }
+            }
+            add_ways(along, across, job, arena, start, n, a, b)
+        }
     }
 }
 
@@ -160,13 +185,13 @@ fn grow_class(
     requires { ⌜ Sought job least (now arena) start half (take (job .count) counts) ⌝ }
     ensures { λ r. ⌜ Comes job start (take (job .count) counts) (PairsBefore job least (now (arena .entry)) start (take (job .count) counts) half) (now (arena .entry)) start (now (arena .exit)) r ⌝ }
 {
-    let types = job.count as usize;
+    let bounds = arena::bounds_of(counts, job.count as usize);
     let mut n = start;
     let mut p = 0;
     while p < half {
         let a = p;
         p = classes::end_of(arena, a);
-        if arena::within_at(arena, a, counts, types) {
+        if arena::within_at(arena, a, bounds) {
             match add_class(job, arena, start, n, a, counts, least) {
                 Listed::Full => {
                     return Listed::Full;

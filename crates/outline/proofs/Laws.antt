@@ -24,10 +24,10 @@ use Rattle.rules.proofs.Least.{Least, sizeBy}
 use Rattle.rules.proofs.Ranges.{TypeInRange}
 use Rattle.shapes.specs.declared.Job.{Job}
 use Rattle.shapes.specs.declared.PieceType as shapes
-use Rattle.shapes.specs.Handed.{typeOf, numbersOf}
+use Rattle.shapes.specs.Handed.{typeOf, numbersOf, JobInRange}
 use Rattle.outline.specs.declared.Least as code
 use Rattle.outline.specs.declared.Outline.{Outline}
-use Rattle.outline.specs.Stands.{JobInRange, jobFor, pieceAt, Few, sums, Alone, LeastAmong, LeastOf, leastBy, twoBytes}
+use Rattle.outline.specs.Stands.{jobFor, pieceAt, Few, sums, Alone, LeastAmong, LeastOf, leastBy, twoBytes}
 
 -- a store at i, where what holds below i holds at i by the value stored
 pub grow : (r : List ℕ) (i v : ℕ) (f : ℕ → ℕ) → i < length r → ((k : ℕ) → k < i → getD r k 0 ≡ f k) → v ≡ f i → (k : ℕ) → k < i + 1 → getD (set r i v) k 0 ≡ f k

@@ -3,24 +3,17 @@ use mathlib.Core.Path.{_≡_}
 use mathlib.Core.List.{List, [], _∷_}
 use Prim.Native.Nat.{ℕ, suc, _+_, _%_, _≤_, _<_}
 use lib.ListN.{length, getD, take}
-use Rattle.rules.specs.Limits.{typesMost, demandMost}
+use Rattle.rules.specs.Limits.{demandMost}
 use Rattle.rules.specs.Bag.{All}
 use Rattle.rules.specs.Box as box
 use Rattle.rules.specs.Job as rules
 use Rattle.rules.specs.Numbers.{noType, grown, jobOf}
-use Rattle.rules.proofs.Ranges.{InRange}
 use Rattle.shapes.specs.declared.Job.{Job}
 use Rattle.shapes.specs.Handed.{numbersOf}
 use Rattle.outline.specs.declared.Outline.{Outline}
 use Rattle.outline.specs.declared.Least.{Least}
 use Rattle.outline.specs.declared.Way.{Way}
 use Rattle.outline.specs.declared.Way.the-variants.{Beside, Above}
-
--- a job as the code holds it, its numbers in range
-pub record JobInRange (job : Job) : Type 0 where
-  pub numbers : InRange (numbersOf job)
-  pub count : job .count ≤ typesMost
-  pub types : length (job .types) ≡ typesMost
 
 abbrev pub jobFor : Job → rules.Job
 jobFor job = jobOf (numbersOf job)

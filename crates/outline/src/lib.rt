@@ -9,7 +9,8 @@ ghost use Rattle.rules.specs.Job.{horizontal, vertical};
 ghost use Rattle.rules.proofs.Bridge.{join};
 ghost use Rattle.rules.proofs.Outlines.{atMost, fits};
 ghost use lib.ListN.{take};
-ghost use Rattle.outline.specs.Stands.{JobInRange, jobFor, outlineOf, Sized, sums, Joins, wayOf, Alone, LeastOf, twoBytes};
+ghost use Rattle.outline.specs.Stands.{jobFor, outlineOf, Sized, sums, Joins, wayOf, Alone, LeastOf, twoBytes};
+ghost use Rattle.shapes.specs.Handed.{JobInRange};
 
 pub struct Along(pub u64);
 

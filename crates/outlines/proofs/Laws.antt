@@ -20,10 +20,10 @@ use Rattle.rules.proofs.Outlines.{fits, fits-true, true-fits, sameOutline, same
 use Rattle.rules.proofs.Unfold.{Rec, noRec, at, MadeBy}
 use Rattle.rules.proofs.Worklist.{index}
 use Rattle.shapes.specs.declared.Job.{Job}
-use Rattle.shapes.specs.Handed.{numbersOf}
+use Rattle.shapes.specs.Handed.{numbersOf, JobInRange}
 use Rattle.outline.specs.declared.Outline.{Outline}
 use Rattle.outline.specs.declared.Way as code
-use Rattle.outline.specs.Stands.{JobInRange, jobFor, pieceAt, outlineOf, wayOf, Few, Joins, Alone, twoBytes}
+use Rattle.outline.specs.Stands.{jobFor, pieceAt, outlineOf, wayOf, Few, Joins, Alone, twoBytes}
 use Rattle.outline.proofs.Laws.{count-types, fits-few, single-at}
 use Rattle.arena.specs.declared.How.the-variants.{Piece, Joined}
 use Rattle.arena.specs.declared.Record.{Record}

@@ -12,7 +12,8 @@ use Rattle.rules.specs.Planner.{roomOf, FitsAlone}
 use Rattle.rules.proofs.Bridge.{join}
 use Rattle.rules.proofs.Unfold.{Rec, noRec, MadeBy, Valid}
 use Rattle.shapes.specs.declared.Job.{Job}
-use Rattle.outline.specs.Stands.{JobInRange, jobFor, pieceAt, outlineOf, twoBytes}
+use Rattle.shapes.specs.Handed.{JobInRange}
+use Rattle.outline.specs.Stands.{jobFor, pieceAt, outlineOf, twoBytes}
 use Rattle.arena.specs.declared.Record.{Record}
 use Rattle.arena.specs.Bytes.{linkOf}
 use Rattle.arena.specs.Records.{makerOf, recs}

@@ -12,11 +12,11 @@ use Rattle.rules.specs.Placed.{ofType}
 use Rattle.rules.specs.Numbers.{PieceType, Entry, noType}
 use Rattle.rules.specs.Checker.{notAType, offSheet}
 use Rattle.rules.proofs.Bools.{not-true, not-false, or-false}
-use Rattle.shapes.specs.Handed.{numbersOf, entryOf}
+use Rattle.shapes.specs.Handed.{numbersOf, entryOf, JobInRange}
 use Rattle.shapes.specs.declared.Job.{Job}
 use Rattle.shapes.specs.declared.PieceType as declared
 use Rattle.shapes.specs.declared.Placement.{Placement}
-use Rattle.placing.specs.Place.{Fine, OfJob, TypeOf}
+use Rattle.placing.specs.Place.{OfJob, TypeOf}
 use Rattle.placing.proofs.Types.{types-count}
 
 -- 6
@@ -26,7 +26,7 @@ kind-zero types kind e = rw (eq-eqb kind 0 e)
 pub kind-other : (types kind : ℕ) → (kind ≡ 0 → ⊥) → ltb types kind ≡ (eqb kind 0 || ltb types kind)
 kind-other types kind e = rw (ne-eqb kind 0 e)
 
-pub type-test : (j : Job) → Fine j → (p : Placement) (r : Bool) → r ≡ (eqb (p .kind) 0 || ltb (j .count) (p .kind)) → (es : List Entry) → r ≡ notAType (numbersOf j) es (entryOf p)
+pub type-test : (j : Job) → JobInRange j → (p : Placement) (r : Bool) → r ≡ (eqb (p .kind) 0 || ltb (j .count) (p .kind)) → (es : List Entry) → r ≡ notAType (numbersOf j) es (entryOf p)
 type-test j f p r e es = rw (types-count j f) e
 
 -- 7
@@ -54,7 +54,7 @@ module _ (j : Job) (p : Placement) (t : declared.PieceType) (is : TypeOf j (p .k
   off-across e across = rw (← length-is, ← width-is, not-false (leb (p .x + (t .length + j .kerf)) (j .length)) (sym along ∙ e)) across
 
 -- an entry that passes test 6 is of a type of the job
-pub of-type : (j : Job) → Fine j → (p : Placement) → notAType (numbersOf j) [] (entryOf p) ≡ false → OfJob j (p .kind)
+pub of-type : (j : Job) → JobInRange j → (p : Placement) → notAType (numbersOf j) [] (entryOf p) ≡ false → OfJob j (p .kind)
 of-type j f p e =
     let q = or-false (eqb (p .kind) 0) (ltb (length (numbersOf j .types)) (p .kind)) e in
     record { fine = f; low = positive (p .kind) (eqb-false (p .kind) 0 (q .0)); high = omega (arith, ltb-false (length (numbersOf j .types)) (p .kind) (q .1), types-count j f) }

@@ -15,19 +15,19 @@ use Rattle.rules.proofs.Bags.{all-index, all-image}
 use Rattle.rules.proofs.Ranges.{TypeInRange}
 use Rattle.rules.proofs.Tally as tally
 use Rattle.rules.proofs.Accept.{types-of, types-kept, demands-kept}
-use Rattle.shapes.specs.Handed.{typeOf, numbersOf, entryOf}
+use Rattle.shapes.specs.Handed.{typeOf, numbersOf, entryOf, JobInRange}
 use Rattle.shapes.specs.declared.Job.{Job}
 use Rattle.shapes.specs.declared.PieceType as declared
 use Rattle.shapes.specs.declared.Placement.{Placement}
-use Rattle.placing.specs.Place.{noEntry, entryAt, Fine, OfJob, TypeOf, Typed, Demanded}
+use Rattle.placing.specs.Place.{noEntry, entryAt, OfJob, TypeOf, Typed, Demanded}
 use Rattle.placing.proofs.Entries.{length-entries}
 
 abbrev noLine : declared.PieceType
 noLine = record { length = 0; width = 0; profit = 0; demand = 0 }
 
-module _ (j : Job) (f : Fine j) where
+module _ (j : Job) (f : JobInRange j) where
   pub types-count : length (numbersOf j .types) ≡ j .count
-  types-count = length-take-le (j .count) (map typeOf (j .types)) (omega (arith, f .room, f .count, length-map (j .types) typeOf))
+  types-count = length-take-le (j .count) (map typeOf (j .types)) (omega (arith, f .types, f .count, length-map (j .types) typeOf))
 
   pub type-at : (kind : ℕ) → OfJob j kind → TypeOf j kind (getD (j .types) (kind - 1) noLine)
   type-at zero o = absurd (omega (arith, o .low))
@@ -35,7 +35,7 @@ module _ (j : Job) (f : Fine j) where
       let z : suc k - 1 ≡ k = omega arith in
       let e : typeOf (getD (j .types) k noLine) ≡ getD (numbersOf j .types) k noType =
       sym (List·getD-map typeOf (j .types) k noLine) ∙ sym (getD-take (j .count) (map typeOf (j .types)) k noType (omega (arith, o .high))) in
-      rw z (record { is = e; range = subst TypeInRange (sym e) (all-index noType (f .range .types) k (omega (arith, o .high, types-count))) })
+      rw z (record { is = e; range = subst TypeInRange (sym e) (all-index noType (f .numbers .types) k (omega (arith, o .high, types-count))) })
 
 -- an entry of a list in which test 6 finds nothing is of a type of the job
 pub typed-at : {j : Job} {flat : List ℕ} → Typed j flat → (i : ℕ) → i < slotsOf (length flat) → (p : Placement) → entryOf p ≡ entryAt flat i → OfJob j (p .kind)
@@ -53,4 +53,4 @@ few-entries {j} {flat} d =
     let n = numbersOf j in
     let l = entries flat in
     let typed : All (λ p. tally.Typed (jobOf n) (p .type)) (lying n l) = all-image (placed n) (types-kept n l (d .typed .typed)) in
-    omega (arith, tally.sum-at-most (countsOf (jobOf n) (lying n l)) (jobOf n .demands) (demands-kept n l (d .demand)), tally.pieces-counts typed, length-map l (placed n), length-entries flat, demand-sum (d .typed .fine .range .types), d .typed .fine .range .count .high)
+    omega (arith, tally.sum-at-most (countsOf (jobOf n) (lying n l)) (jobOf n .demands) (demands-kept n l (d .demand)), tally.pieces-counts typed, length-map l (placed n), length-entries flat, demand-sum (d .typed .fine .numbers .types), d .typed .fine .numbers .count .high)

@@ -4,13 +4,12 @@ use mathlib.Core.Bool.{Bool}
 use mathlib.Core.Option.{Option, none, some}
 use mathlib.Core.List.{List, []}
 use Prim.Native.Nat.{ℕ, _≤_, _<_}
-use lib.ListN.{length, getD}
-use Rattle.rules.specs.Limits.{typesMost}
+use lib.ListN.{getD}
 use Rattle.rules.specs.Placed.{ofType}
 use Rattle.rules.specs.Numbers.{Entry, entries, noType}
 use Rattle.rules.specs.Checker.{notAType, aboveDemand, firstPlace}
-use Rattle.rules.proofs.Ranges.{InRange, TypeInRange}
-use Rattle.shapes.specs.Handed.{typeOf, numbersOf, entryOf}
+use Rattle.rules.proofs.Ranges.{TypeInRange}
+use Rattle.shapes.specs.Handed.{typeOf, numbersOf, entryOf, JobInRange}
 use Rattle.shapes.specs.declared.Job.{Job}
 use Rattle.shapes.specs.declared.PieceType.{PieceType}
 use Rattle.shapes.specs.declared.Placement.{Placement}
@@ -39,15 +38,9 @@ FirstAt f flat r = placeIn r ≡ firstPlace f 0 [] (entries flat)
 abbrev pub NoneAt : (List Entry → Entry → Bool) → List ℕ → Type 0
 NoneAt f flat = firstPlace f 0 [] (entries flat) ≡ none
 
--- a job whose numbers are in range
-pub record Fine (j : Job) : Type 0 where
-  pub room : length (j .types) ≡ typesMost
-  pub count : j .count ≤ typesMost
-  pub range : InRange (numbersOf j)
-
--- such a job, and the number of one of its types
+-- a job in range, and the number of one of its types
 pub record OfJob (j : Job) (kind : ℕ) : Type 0 where
-  pub fine : Fine j
+  pub fine : JobInRange j
   pub low : 0 < kind
   pub high : kind ≤ j .count
 
@@ -57,7 +50,7 @@ pub record TypeOf (j : Job) (kind : ℕ) (t : PieceType) : Type 0 where
 
 -- such a job, and a list in which test 6 finds nothing
 pub record Typed (j : Job) (flat : List ℕ) : Type 0 where
-  pub fine : Fine j
+  pub fine : JobInRange j
   pub typed : NoneAt (notAType (numbersOf j)) flat
 
 -- and test 8 finds nothing

@@ -10,8 +10,8 @@ ghost use Rattle.rules.specs.Numbers.{entries, jobOf, lying};
 ghost use Rattle.rules.specs.Placed.{worth};
 ghost use Rattle.rules.specs.Planner.{slotsOf};
 ghost use Rattle.rules.specs.Checker.{notAType, offSheet, aboveDemand};
-ghost use Rattle.shapes.specs.Handed.{entryOf, numbersOf};
-ghost use Rattle.placing.specs.Place.{entryAt, HoldsOf, FirstAt, Fine, OfJob, Typed, Demanded, TypeOf};
+ghost use Rattle.shapes.specs.Handed.{entryOf, numbersOf, JobInRange};
+ghost use Rattle.placing.specs.Place.{entryAt, HoldsOf, FirstAt, OfJob, Typed, Demanded, TypeOf};
 use shapes::Job;
 use shapes::PLACEMENT_NUMBERS;
 use shapes::PieceType;
@@ -57,7 +57,7 @@ pub fn not_a_type(types: u64, kind: u64) -> bool
 
 // 6: "a type not in 1 to n".
 pub fn first_not_a_type(job: Job, list: &[u64]) -> Place
-    requires { ⌜ Fine job ⌝ }
+    requires { ⌜ JobInRange job ⌝ }
     ensures { λ r. ⌜ FirstAt (notAType (numbersOf job)) (now (list .entry)) r ⌝ }
 {
     let count = placements_in(list.len());

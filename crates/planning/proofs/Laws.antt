@@ -30,10 +30,10 @@ use Rattle.shapes.specs.declared.PlanVerdict.{PlanVerdict}
 use Rattle.shapes.specs.declared.PlanVerdict.the-variants.{Done, NoPlan}
 use Rattle.shapes.specs.declared.Refusal.the-variants.{OutOfRange, NothingFits, ArenaFull, BufferShort}
 use Rattle.shapes.specs.Answer.{planAnswer}
-use Rattle.shapes.specs.Handed.{itemsOf, numbersOf}
+use Rattle.shapes.specs.Handed.{itemsOf, numbersOf, JobInRange}
 use Rattle.jobs.proofs.Fine.{count-fine, same-numbers, job-in-range}
 use Rattle.outline.specs.declared.Outline.{Outline}
-use Rattle.outline.specs.Stands.{JobInRange, jobFor, pieceAt, outlineOf, Alone}
+use Rattle.outline.specs.Stands.{jobFor, pieceAt, outlineOf, Alone}
 use Rattle.arena.specs.declared.Record.{Record}
 use Rattle.arena.specs.Records.{recordAt, makerOf, Loaded}
 use Rattle.arena.proofs.Laws.{length-recs, recs-at}

@@ -10,8 +10,8 @@ use Rattle.rules.proofs.Unfold.{Valid}
 use Rattle.shapes.specs.declared.Job.{Job}
 use Rattle.shapes.specs.declared.PlanVerdict.{PlanVerdict}
 use Rattle.shapes.specs.Answer.{planAnswer}
-use Rattle.shapes.specs.Handed.{numbersOf}
-use Rattle.outline.specs.Stands.{JobInRange, jobFor}
+use Rattle.shapes.specs.Handed.{numbersOf, JobInRange}
+use Rattle.outline.specs.Stands.{jobFor}
 use Rattle.outlines.specs.Listing.{recsIn, outlinesIn}
 
 -- some type fits alone

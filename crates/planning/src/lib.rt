@@ -9,9 +9,8 @@ use shapes::PlanVerdict;
 use shapes::Refusal;
 ghost use Rattle.rules.specs.Answers.{PlanNumbers};
 ghost use Rattle.shapes.specs.Answer.{planAnswer};
-ghost use Rattle.shapes.specs.Handed.{itemsOf};
+ghost use Rattle.shapes.specs.Handed.{itemsOf, JobInRange};
 ghost use lib.ListN.{length};
-ghost use Rattle.outline.specs.Stands.{JobInRange};
 ghost use Rattle.outlines.specs.Listing.{Told};
 ghost use Rattle.planning.specs.Plans.{SomeFits, Fitting, Choosing, Answered, Left};
 

@@ -15,7 +15,7 @@ use Rattle.rules.specs.Numbers.{Numbers, PieceType, Entry, noType}
 use Rattle.rules.specs.Checker.{notAType, offSheet, aboveDemand}
 use Rattle.rules.specs.Answers.{outside, CheckNumbers}
 use Rattle.shapes.specs.Answer.{checkAnswer}
-use Rattle.shapes.specs.Handed.{itemsOf, numbersOf, entryOf}
+use Rattle.shapes.specs.Handed.{itemsOf, numbersOf, entryOf, JobInRange}
 use Rattle.shapes.specs.declared.Job.{Job}
 use Rattle.shapes.specs.declared.Placement.{Placement}
 use Rattle.shapes.specs.declared.PieceType as declared
@@ -23,7 +23,7 @@ use Rattle.shapes.specs.declared.CheckVerdict.{CheckVerdict}
 use Rattle.shapes.specs.declared.CheckVerdict.the-variants.{Rejected}
 use Rattle.shapes.specs.declared.Refusal.the-variants as refusal
 use Rattle.jobs.proofs.Fine.{count-fine, same-numbers, job-in-range}
-use Rattle.placing.specs.Place.{NoneAt, Fine, OfJob, TypeOf}
+use Rattle.placing.specs.Place.{NoneAt, OfJob, TypeOf}
 use Rattle.placing.specs.declared.Place.the-variants.{At}
 use Rattle.placing.proofs.Tests.{of-type}
 use Rattle.placing.proofs.Types.{few-entries}
@@ -161,8 +161,8 @@ alive (seven a b h) e = a
 alive (eight a b c h) e = a
 alive (clean a b c d h) e = a
 
-pub job-fine : {s : Scan} → Reached s → (rankOf (s .found) ≡ 2 → ⊥) → Fine (s .job)
-job-fine {s} c e = subst Fine (sym (c .scanning .job)) (alive (c .scanning .told) e .fine)
+pub job-fine : {s : Scan} → Reached s → (rankOf (s .found) ≡ 2 → ⊥) → JobInRange (s .job)
+job-fine {s} c e = subst JobInRange (sym (c .scanning .job)) (alive (c .scanning .told) e .fine)
 
 pub seen-is : {s : Scan} (c : Reached s) → (rankOf (s .found) ≡ 2 → ⊥) → s .seen ≡ length (c .seen)
 seen-is c e = alive (c .scanning .told) e .seen
@@ -216,13 +216,13 @@ scanning-start j {f} room b counts flat ec ef = record { job = refl; told = go f
     go : (f : Found) → Began j f → Told j [] (record { job = j; found = f; seen = 0; counts = counts; flat = flat }) f
     go f (bad e) = out e
     go f (good e) =
-        clean (record { fine = record { room = room; count = count-fine j room e; range = job-in-range j room e }; none-out = e; seen = refl }) refl refl refl
+        clean (record { fine = record { types = room; count = count-fine j room e; numbers = job-in-range j room e }; none-out = e; seen = refl }) refl refl refl
         (record { types = ap length ec ∙ length-replicate {A = ℕ} typesMost 0; held = λ k h. ap (λ l. getD l k 0) ec ∙ zeros typesMost k; room = ap length ef ∙ length-replicate {A = ℕ} (3 * piecesMost) 0; flat = refl })
 
 -- the end
 module _ {s : Scan} where
   checked-in : {j : Job} {ps : List Placement} (a : Alive j ps s) → numbersFrom (itemsOf j) ≡ numbersOf j
-  checked-in {j} a = same-numbers j (a .fine .room) (a .none-out)
+  checked-in {j} a = same-numbers j (a .fine .types) (a .none-out)
 
   pub ends-out : {i : ℕ} → s .found ≡ OutOfRange i → Ends s (Rejected (refusal.OutOfRange i))
   ends-out {i} e = record { answer = λ j ps c. go (subst (Told j ps s) e (c .told)) }

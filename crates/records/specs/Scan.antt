@@ -13,12 +13,12 @@ use Rattle.rules.specs.Numbers.{Entry, entries}
 use Rattle.rules.specs.Checker.{notAType, offSheet, aboveDemand, firstPlace}
 use Rattle.rules.specs.Answers.{CheckNumbers}
 use Rattle.shapes.specs.Answer.{checkAnswer}
-use Rattle.shapes.specs.Handed.{itemsOf, numbersOf, entryOf}
+use Rattle.shapes.specs.Handed.{itemsOf, numbersOf, entryOf, JobInRange}
 use Rattle.shapes.specs.declared.Job.{Job}
 use Rattle.shapes.specs.declared.Placement.{Placement}
 use Rattle.shapes.specs.declared.PieceType as declared
 use Rattle.shapes.specs.declared.CheckVerdict.{CheckVerdict}
-use Rattle.placing.specs.Place.{NoneAt, Fine, TypeOf}
+use Rattle.placing.specs.Place.{NoneAt, TypeOf}
 use Rattle.records.specs.declared.Scan.{Scan}
 use Rattle.records.specs.declared.Found.{Found}
 use Rattle.records.specs.declared.Found.the-variants.{Clean, OutOfRange, NotAType, OffSheet, AboveDemand}
@@ -85,7 +85,7 @@ behind ps = onto (entries (flatOf ps)) []
 
 -- a job in range, and how many placements were seen
 pub record Alive (j : Job) (ps : List Placement) (s : Scan) : Type 0 where
-  pub fine : Fine j
+  pub fine : JobInRange j
   pub none-out : outOfRange (itemsOf j) ≡ none
   pub seen : s .seen ≡ length ps
 

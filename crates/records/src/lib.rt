@@ -8,8 +8,7 @@ ghost use lib.ListN.{take};
 ghost use Rattle.rules.specs.Limits.{placementNumbers};
 ghost use Rattle.rules.specs.Answers.{CheckNumbers};
 ghost use Rattle.shapes.specs.Answer.{checkAnswer};
-ghost use Rattle.shapes.specs.Handed.{itemsOf};
-ghost use Rattle.placing.specs.Place.{Fine};
+ghost use Rattle.shapes.specs.Handed.{itemsOf, JobInRange};
 ghost use Rattle.records.specs.Scan.{Began, Tested, rankOf, soonerOf, Keeps, Kept, Short, Scanning, Reached, Steps, Ends, flatOf};
 use checking::check_list;
 use jobs::Item;
@@ -69,7 +68,7 @@ pub fn scan_start(job: Job) -> Scan
 
 // The first of tests 6 to 8 that holds of the placement at i.
 fn test_of(job: Job, counts: [u64; TYPES_MOST], p: Placement, i: usize) -> Found
-    requires { ⌜ Fine job ⌝ }
+    requires { ⌜ JobInRange job ⌝ }
     ensures { λ r. ⌜ Tested job counts p i r ⌝ }
 {
     if not_a_type(job.count, p.kind) {

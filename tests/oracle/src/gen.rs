@@ -16,7 +16,7 @@ mod jobs;
 
 use drawings::drawing;
 use faults::{damage_list, damage_text, miscounted_text, spoil_some, spoilt_count};
-use jobs::{planner_job, random_job};
+use jobs::{large_job, planner_job, random_job};
 
 /// The greatest number of 8 digits.
 const MAX_NUMBER: u64 = 99_999_999;
@@ -80,7 +80,8 @@ fn section<const N: usize>(text: &mut String, lines: &[[u64; N]]) {
     }
 }
 
-/// A source of cases of one kind.
+/// A source of cases of one kind, 1 to 4 as in `cases`; 5: a case of kind 1
+/// whose job has many outlines.
 pub struct Generator {
     kind: u8,
     rng: Rng,
@@ -99,7 +100,8 @@ impl Generator {
             1 => plan_text(rng),
             2 => Case::check(2, plan_list_text(rng)),
             3 => plan_numbers(rng),
-            _ => Case::check(4, list_numbers(rng)),
+            4 => Case::check(4, list_numbers(rng)),
+            _ => plan_large(rng),
         }
     }
 }
@@ -128,7 +130,13 @@ fn plan_text(rng: &mut Rng) -> Case {
             damage_text(rng, &mut text);
         }
     }
-    lend(rng, text::read_job(&text).ok(), 1, text)
+    lend(rng, text::read_job(&text).ok(), 1_500, 1, text)
+}
+
+/// The text of a job with many outlines, with arena and buffer.
+fn plan_large(rng: &mut Rng) -> Case {
+    let draft = large_job(rng);
+    lend(rng, draft.job().ok(), 30_000, 1, draft.text(false))
 }
 
 /// Kind 3: a job as numbers, with arena and buffer.
@@ -142,7 +150,7 @@ fn plan_numbers(rng: &mut Rng) -> Case {
         numbers.count = spoilt_count(rng, numbers.count);
     }
     let payload = line(&flat(&numbers)).into_bytes();
-    lend(rng, Job::from_numbers(&numbers).ok(), 3, payload)
+    lend(rng, Job::from_numbers(&numbers).ok(), 1_500, 3, payload)
 }
 
 /// Kind 2: a plan text.
@@ -202,9 +210,9 @@ fn flat(numbers: &JobNumbers) -> Vec<u64> {
 }
 
 /// Adds an arena and a buffer that are just enough or just too small for the
-/// job, if there is one.
-fn lend(rng: &mut Rng, job: Option<Job>, kind: u8, payload: Vec<u8>) -> Case {
-    let outlines = job.as_ref().and_then(|job| Outlines::within(job, 1_500));
+/// job, if there is one and it has no more than `most` outlines.
+fn lend(rng: &mut Rng, job: Option<Job>, most: usize, kind: u8, payload: Vec<u8>) -> Case {
+    let outlines = job.as_ref().and_then(|job| Outlines::within(job, most));
     let known = outlines.and_then(|o| Some((o.number() as u64, o.best()?.counts.pieces())));
     let (outlines, pieces) = known.unwrap_or((rng.between(1, 300), rng.between(1, 8)));
     let arena = match rng.below(20) {

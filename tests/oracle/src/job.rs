@@ -93,6 +93,14 @@ impl Size {
         }
     }
 
+    /// Length and width change places.
+    pub fn turned(self) -> Size {
+        Size {
+            length: self.width,
+            width: self.length,
+        }
+    }
+
     /// An edge on the last line of `room` is still inside it.
     pub fn fits(self, room: Size) -> bool {
         self.length <= room.length && self.width <= room.width
@@ -192,6 +200,16 @@ impl Job {
     /// placement count.
     pub fn items(&self) -> usize {
         5 + 4 * self.types.len()
+    }
+
+    /// Lengths and widths change places throughout.
+    pub fn turned(&self) -> Job {
+        let mut job = self.clone();
+        job.sheet = job.sheet.turned();
+        for kind in &mut job.types {
+            kind.grown = kind.grown.turned();
+        }
+        job
     }
 
     /// Does a piece of type `t` (from 0) fit the sheet alone?

@@ -1,13 +1,15 @@
 //! A reference program for the guillotine cutting planner and checker of
-//! document 01. It takes other roads than a planner would: all outlines by
-//! splitting count vectors, the optimum again by cutting the sheet from the top,
-//! parting straight from its definition, and texts by an automaton.
+//! document 01: all outlines by splitting count vectors and where they are few
+//! again by joining all pairs, strips by a formula, the optimum again by cutting
+//! the sheet from the top, parting straight from its definition, and texts by an
+//! automaton.
 //!
 //! ```text
 //! oracle plan [RECORDS [PLACEMENTS]]   plans the job text on standard input
 //! oracle check                         checks the plan text on standard input
 //! oracle gen KIND SEED COUNT           writes COUNT random cases of a kind
-//! oracle tables [slow]                 writes the rows of document 01 as cases
+//! oracle tables                        writes the rows of document 01 as cases
+//! oracle tables large|strips           writes rows around 65,535 outlines
 //! oracle answers CASES                 prints the expected answer lines
 //! oracle verify CASES ANSWERS          compares answer lines with the expected
 //! oracle cross SEED COUNT              plans random jobs by both methods
@@ -18,8 +20,10 @@ mod checker;
 mod gen;
 mod job;
 mod outlines;
+mod pairs;
 mod planner;
 mod rng;
+mod strips;
 mod tables;
 mod text;
 mod topdown;
@@ -61,7 +65,7 @@ fn run(arguments: &[String]) -> Result<bool, Box<dyn Error>> {
         ["plan", records] => plan_program(records.parse()?, PLACEMENTS, out)?,
         ["plan", records, placements] => plan_program(records.parse()?, placements.parse()?, out)?,
         ["check"] => check_program(out)?,
-        ["gen", kind @ ("1" | "2" | "3" | "4"), seed, count] => {
+        ["gen", kind @ ("1" | "2" | "3" | "4" | "5"), seed, count] => {
             let mut generator = gen::Generator::new(kind.parse()?, seed.parse()?);
             for _ in 0..count.parse::<u64>()? {
                 generator.case().write(out)?;
@@ -69,7 +73,8 @@ fn run(arguments: &[String]) -> Result<bool, Box<dyn Error>> {
             true
         }
         ["tables"] => write_rows(&tables::rows(), out)?,
-        ["tables", "slow"] => write_rows(&tables::slow_rows(), out)?,
+        ["tables", "large"] => write_rows(&tables::large_rows(), out)?,
+        ["tables", "strips"] => write_rows(&tables::strip_rows(), out)?,
         ["answers", cases] => {
             for case in Case::read_all(&fs::read(cases)?)? {
                 writeln!(out, "{}", cases::answer(&case)?)?;

@@ -37,6 +37,10 @@ impl Counts {
         self
     }
 
+    pub fn plus(self, other: Counts) -> Counts {
+        Counts(std::array::from_fn(|t| self.0[t] + other.0[t]))
+    }
+
     pub fn minus(self, other: Counts) -> Counts {
         Counts(std::array::from_fn(|t| self.0[t] - other.0[t]))
     }
@@ -76,7 +80,7 @@ impl Hash for Counts {
     }
 }
 
-/// A quick hash for counts; nobody picks them to make it collide.
+/// A quick hash for counts and sizes; nobody picks them to make it collide.
 #[derive(Default)]
 pub struct QuickHasher(u64);
 
@@ -105,7 +109,8 @@ impl Hasher for QuickHasher {
     }
 }
 
-pub type QuickMap<K, V> = HashMap<K, V, BuildHasherDefault<QuickHasher>>;
+pub type QuickHash = BuildHasherDefault<QuickHasher>;
+pub type QuickMap<K, V> = HashMap<K, V, QuickHash>;
 
 /// One outline: "Builds that agree in length, width and the count of every type
 /// are one outline."

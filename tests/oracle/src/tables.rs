@@ -268,27 +268,51 @@ pub fn rows() -> Vec<Row> {
     rows
 }
 
-/// Rows that take seconds each: the most records that are ever used.
-pub fn slow_rows() -> Vec<Row> {
-    let exact = strip(&[3, 3, 3, 3, 1, 1, 1, 1, 1, 1, 1, 1]);
-    let above = strip(&[2, 2, 2, 2, 2, 2, 2, 2, 1, 4]);
-    let most = 32 * 65_535;
+/// A job with 65,534 outlines, and one more for each type that takes up the
+/// whole sheet and so goes with no other piece.
+fn near_the_most(sheets: usize) -> String {
+    let types = "25 12 300 3\n32 7 224 3\n29 20 580 1\n52 11 572 2\n14 9 126 4\n13 24 312 2\n";
+    let more = "86 46 1 1\n".repeat(sheets);
+    format!("1\n86 46 0\n{}\n{types}{more}", 6 + sheets)
+}
+
+/// Published jobs, and N at the most records that are ever used; in arenas for
+/// one record less than N, for N, and for one more or as many as there may be.
+pub fn large_rows() -> Vec<Row> {
+    let of1 = include_str!("../../../examples/published/P3.job");
+    let of2 = include_str!("../../../examples/published/P4.job");
+    let pg4 = include_str!("../../../examples/published/PG4.job");
+    let [most, above] = [1, 2].map(near_the_most);
+    let (refused, largest) = ("4 0 0 0 0 0 0 0", 32 * 65_540);
+    let of1_answer = "0 0 2737 70 40 10 36595 0";
+    let of2_answer = "0 0 2690 70 40 10 33425 0";
+    let most_answer = "0 0 3696 84 46 10 65535 0";
     vec![
-        plan("N = 65535", &exact, most, 60, "0 0 20 20 1 20 65535 0"),
-        plan(
-            "N = 65535, one byte less",
-            &exact,
-            most - 1,
-            60,
-            "4 0 0 0 0 0 0 0",
-        ),
-        // 65,609 outlines, and bytes for as many records.
-        plan(
-            "N above the most records",
-            &above,
-            32 * 65_609,
-            400,
-            "4 0 0 0 0 0 0 0",
-        ),
+        plan("OF1, N - 1", of1, 32 * 36_594, 30, refused),
+        plan("OF1, N", of1, 32 * 36_595, 30, of1_answer),
+        plan("OF1, N + 1", of1, 32 * 36_596, 31, of1_answer),
+        plan("OF1, 9 pieces", of1, 32 * 36_595, 29, "5 0 0 0 0 0 0 0"),
+        plan("OF2, N - 1", of2, 32 * 33_425 - 1, 30, refused),
+        plan("OF2, N", of2, 32 * 33_425, 30, of2_answer),
+        plan("OF2, N + 1", of2, 32 * 33_426, 30, of2_answer),
+        plan("65535, N - 1", &most, 32 * 65_535 - 1, 30, refused),
+        plan("65535, N", &most, 32 * 65_535, 30, most_answer),
+        plan("65535, N + 5", &most, largest, 30, most_answer),
+        plan("65536, N - 1", &above, 32 * 65_535, 30, refused),
+        plan("65536, N", &above, 32 * 65_536, 30, refused),
+        plan("65536, N + 4", &above, largest, 30, refused),
+        plan("PG4, the largest arena", pg4, largest, 30, refused),
+    ]
+}
+
+/// Strips with up to 65,535 outlines, for which there is a formula; the second
+/// stands across the sheet.
+pub fn strip_rows() -> Vec<Row> {
+    let four = strip(&[14, 15, 15, 16]);
+    let twelve = strip(&[3, 3, 3, 3, 1, 1, 1, 1, 1, 1, 1, 1]).replace("100 1 0", "1 100 0");
+    let (four_answer, twelve_answer) = ("0 0 60 60 1 60 65279 0", "0 0 20 1 20 20 65535 0");
+    vec![
+        plan("strip, N", &four, 32 * 65_279, 180, four_answer),
+        plan("strip, 65535", &twelve, 32 * 65_535, 60, twelve_answer),
     ]
 }

@@ -8,8 +8,8 @@ use crate::job::{Job, JobNumbers, Refusal};
 use crate::outlines::Outlines;
 use crate::planner::plan;
 use crate::rng::Rng;
-use crate::tables::{rows, slow_rows, Row};
-use crate::{text, topdown};
+use crate::tables::{large_rows, rows, strip_rows, Row};
+use crate::{pairs, strips, text, topdown};
 
 fn agree(row: &Row) {
     let answer = answer(&row.case).unwrap();
@@ -30,9 +30,9 @@ fn rows_of_the_document() {
 }
 
 #[test]
-#[ignore = "takes about 15 seconds"]
-fn rows_at_the_most_records() {
-    slow_rows().iter().for_each(agree);
+fn rows_with_many_outlines() {
+    large_rows().iter().for_each(agree);
+    strip_rows().iter().for_each(agree);
 }
 
 /// "The planner: profit 7, outline 3 by 3, counts 1, 2, 1."
@@ -124,66 +124,37 @@ fn builds_and_cuts_earn_the_same() {
     }
 }
 
-/// N and the best outline once more, on tiny jobs: all builds by joining all
-/// that is known until nothing new comes, each kept as written down.
+/// N and the best outline once more, on small jobs.
 #[test]
 fn outlines_by_joining_everything() {
-    type Build = (u32, u32, Vec<u8>);
-    fn close(job: &Job) -> Vec<Build> {
-        let mut builds: Vec<Build> = Vec::new();
-        for t in (0..job.types.len()).filter(|&t| job.fits_alone(t)) {
-            let mut counts = vec![0; job.types.len()];
-            counts[t] = 1;
-            let grown = job.types[t].grown;
-            builds.push((grown.length, grown.width, counts));
-        }
-        let mut next = 0;
-        while next < builds.len() {
-            for other in 0..=next {
-                let (a, b) = (&builds[next], &builds[other]);
-                let counts: Vec<u8> = a.2.iter().zip(&b.2).map(|(i, j)| i + j).collect();
-                if counts.iter().zip(&job.types).any(|(&c, t)| c > t.demand) {
-                    continue;
-                }
-                let joins = [(a.0 + b.0, a.1.max(b.1)), (a.0.max(b.0), a.1 + b.1)];
-                for (length, width) in joins {
-                    let build = (length, width, counts.clone());
-                    let fits = length <= job.sheet.length && width <= job.sheet.width;
-                    if fits && !builds.contains(&build) {
-                        builds.push(build);
-                    }
-                }
-            }
-            next += 1;
-        }
-        builds
-    }
     let mut compared = 0;
     for job in small_jobs(4).take(3_000) {
         let Some(outlines) = Outlines::within(&job, 250) else {
             continue;
         };
-        let builds = close(&job);
-        assert_eq!(outlines.number(), builds.len(), "{job:?}");
-        let profit = |b: &Build| -> u64 {
-            b.2.iter()
-                .zip(&job.types)
-                .map(|(&c, t)| u64::from(c) * t.profit)
-                .sum()
-        };
-        let mut builds = builds;
-        builds.sort_by(|a, b| profit(b).cmp(&profit(a)).then(a.cmp(b)));
-        match (outlines.best(), builds.first()) {
-            (Some(best), Some(build)) => {
-                let counts = (0..job.types.len()).map(|t| best.counts.of(t)).collect();
-                assert_eq!((best.size.length, best.size.width, counts), *build);
-            }
-            (None, None) => {}
-            other => panic!("{other:?}"),
-        }
+        let all = pairs::outlines(&job);
+        assert_eq!(outlines.number(), all.len(), "{job:?}");
+        assert_eq!(outlines.best(), pairs::best(all), "{job:?}");
         compared += 1;
     }
     assert!(compared > 1_500, "only {compared} jobs were small enough");
+}
+
+/// The formula for strips against splitting count vectors.
+#[test]
+fn strips_by_formula() {
+    let mut compared = 0;
+    for job in small_jobs(7).take(3_000) {
+        let Some(strip) = strips::plan(&job) else {
+            continue;
+        };
+        let outlines = Outlines::within(&job, usize::MAX).unwrap();
+        assert_eq!(outlines.number() as u64, strip.outlines, "{job:?}");
+        assert_eq!(outlines.best(), Some(strip.best), "{job:?}");
+        assert_eq!(check(&job, &strip.placements), Ok(strip.best.profit));
+        compared += 1;
+    }
+    assert!(compared > 300, "only {compared} jobs were strips");
 }
 
 /// "no accepted plan for that job earns more": every list of every tiny job.

@@ -1,24 +1,24 @@
--- `arena::within` meets its contract. The invariant: below i no count of the record is over. Assumes nothing.
-use Prim.Native.Nat.{ℕ, _-_, _≤_, _<_}
+-- `arena::within` meets its contract. The invariant: `fit` says whether the first i bytes are at most these. Assumes nothing.
+use Prim.Native.Nat.{_+_, _-_, _≤_}
 use native.Mathlib.Omega.{arith}
-use mathlib.Core.Path.{sym}
-use lib.ListN.{getD, take, length-take}
-use lib.Seq.{getD-take}
-use borrow.Author.Count.{below-more}
-use Rattle.rules.specs.Limits.{typesMost}
-use Rattle.outline.proofs.Laws.{at-most-here, at-most-all}
+use mathlib.Core.Path.{_≡_, refl, sym, ap, _∙_}
+use lib.ListN.{take}
+use Rattle.rules.proofs.Outlines.{atMost}
+use Rattle.outline.proofs.Laws.{at-most-here}
+use Rattle.arena.specs.Records.{boundsMost}
+use Rattle.arena.proofs.Codec.{at-most-next}
 use borrow.Author.Needs.{needs}
 use Rattle.arena.proofs.within.Statement.{statement}
 use Rattle.arena.proofs.within.Tie as tie
 
 abbrev Inv-loop : tie.InvT-loop
-Inv-loop s n counts i₀ i = (i ≤ n) × ((k : ℕ) → k < i → getD s k 0 ≤ getD counts k 0)
+Inv-loop s bounds fit₀ i₀ fit i = (i ≤ boundsMost) × (fit ≡ atMost (take i s) bounds)
 
 abbrev μ-loop : tie.MeasureT-loop
-μ-loop s n counts i₀ i = n - i
+μ-loop s bounds fit₀ i₀ fit i = boundsMost - i
 
 loop-holds : tie.Need-loop-holds Inv-loop μ-loop
-loop-holds c = search needs
+loop-holds c = (search needs, refl)
 
 add-i : tie.Need-add-i Inv-loop μ-loop
 add-i c = search needs
@@ -29,30 +29,30 @@ array-read-if1 c = search needs
 shared-slice-read-if1 : tie.Need-shared-slice-read-if1 Inv-loop μ-loop
 shared-slice-read-if1 c = search needs
 
-returns : tie.Need-returns Inv-loop μ-loop
-returns c =
-    let lo = c .before .before .before .loop in
-    let st = c .before .before .before .before in
-    let s = st .args .s .now in
-    let n = st .args .n in
-    let e = getD-take typesMost s (lo .i) 0 (omega arith) in
-    let f = getD-take n (st .args .t2) (lo .i) 0 (omega arith) in
-    sym (at-most-here n (take typesMost s) (take n (st .args .t2)) (lo .i) (omega arith) (simp length-take (omega arith)) (omega (arith, c .if1 .taken)))
-
 loop-less : tie.Need-loop-less Inv-loop μ-loop
 loop-less c = search needs
 
 loop-again : tie.Need-loop-again Inv-loop μ-loop
-loop-again c = (omega arith, below-more _ _ (c .before .before .before .loop .inv .1) (omega (arith, c .if1 .left)))
+loop-again c =
+    let lo = c .before .before .before .loop in
+    let st = c .before .before .before .before in
+    (omega arith, sym (at-most-here (lo .i + 1) (st .args .s .now) (st .args .t2) (lo .i) (omega arith) (omega arith) (c .if1 .taken)))
 
-returns-2 : tie.Need-returns-2 Inv-loop μ-loop
-returns-2 c =
+loop-less-2 : tie.Need-loop-less-2 Inv-loop μ-loop
+loop-less-2 c = search needs
+
+loop-again-2 : tie.Need-loop-again-2 Inv-loop μ-loop
+loop-again-2 c =
+    let lo = c .before .before .before .loop in
+    let st = c .before .before .before .before in
+    (omega arith, lo .inv .1 ∙ sym (at-most-next (lo .i) (st .args .s .now) (st .args .t2) (search needs) (c .if1 .left)))
+
+returns : tie.Need-returns Inv-loop μ-loop
+returns c =
     let lo = c .before .loop in
     let st = c .before .before in
-    let s = st .args .s .now in
-    let n = st .args .n in
-    let b = st .args .t2 in
-    sym (at-most-all n (take typesMost s) (take n b) (simp length-take (omega arith)) (λ k h. omega (arith, lo .inv .1 k (omega arith), getD-take typesMost s k 0 (omega arith), getD-take n b k 0 h)))
+    let e : lo .i ≡ boundsMost = omega arith in
+    lo .inv .1 ∙ ap (λ n. atMost (take n (st .args .s .now)) (st .args .t2)) e
 
 pub within-spec : {M : Type 1} → statement M
 within-spec =
@@ -64,7 +64,8 @@ within-spec =
     add-i
     array-read-if1
     shared-slice-read-if1
-    returns
     loop-less
     loop-again
-    returns-2)
+    loop-less-2
+    loop-again-2
+    returns)

@@ -1,8 +1,7 @@
 -- `arena::within_at` meets its contract. Assumes nothing.
-use mathlib.Core.Path.{ap, _∙_}
-use lib.ListN.{take}
-use Rattle.rules.proofs.Outlines.{atMost}
-use Rattle.arena.proofs.Laws.{counts-in}
+use native.Mathlib.Omega.{arith}
+use mathlib.Core.Path.{_∙_}
+use Rattle.arena.proofs.Laws.{within-bounds}
 use borrow.Author.Needs.{needs}
 use Rattle.arena.proofs.within_at.Statement.{statement}
 use Rattle.arena.proofs.within_at.Tie as tie
@@ -27,8 +26,9 @@ within-requires c κs = search needs
 
 returns : tie.Need-returns
 returns c =
-    let g = c .before .before .before .args in
-    c .within .ensures ∙ ap (λ l. atMost (take (g .types) l) (take (g .types) (g .counts))) (counts-in (g .arena .now) (g .i))
+    let known = c .before .before in
+    let g = known .before .args in
+    λ types d u. c .within .ensures ∙ within-bounds (g .arena .now) (g .i) types d (g .bounds) (search needs) (λ m. omega (arith, known .shared-slice-known .given m)) u
 
 pub within-at-spec : {M : Type 1} → statement M
 within-at-spec =

@@ -6,10 +6,9 @@ use borrow.Author.Needs.{needs}
 use Rattle.rules.specs.Limits.{typesMost}
 use Rattle.rules.specs.Items.{outOfRange}
 use Rattle.rules.specs.Answers.{outside}
-use Rattle.shapes.specs.Handed.{itemsOf}
+use Rattle.shapes.specs.Handed.{itemsOf, JobInRange}
 use Rattle.jobs.specs.Item.{itemPlace}
 use Rattle.jobs.proofs.Fine.{count-fine, same-numbers, job-in-range}
-use Rattle.placing.specs.Place.{Fine}
 use Rattle.checking.proofs.Verdict.{verdict-in-range}
 use Rattle.checking.proofs.check_list.Statement.{statement}
 use Rattle.checking.proofs.check_list.Tie as tie
@@ -25,11 +24,11 @@ none-out c = sym (c .before .before .first-out-of-range .ensures) ∙ ap itemPla
 twelve : (c : lts.Start (first-out-of-range-reads.Asked, first-out-of-range-reads.Learnt, check-in-range-reads.Asked, check-in-range-reads.Learnt) reads.Pre reads.Post) → length (c .args .job .types) ≡ typesMost
 twelve c = sym (length-map (c .args .job .types) _) ∙ c .good .0 .1 .1 .1 .1 .1 .1 .0 .1 .0 .1
 
-fine-job : (c : lts.After-enum-told (first-out-of-range-reads.Asked, first-out-of-range-reads.Learnt, check-in-range-reads.Asked, check-in-range-reads.Learnt) reads.Pre reads.Post) → Fine (c .before .before .before .before .args .job)
+fine-job : (c : lts.After-enum-told (first-out-of-range-reads.Asked, first-out-of-range-reads.Learnt, check-in-range-reads.Asked, check-in-range-reads.Learnt) reads.Pre reads.Post) → JobInRange (c .before .before .before .before .args .job)
 fine-job c =
     let st = c .before .before .before .before in
     let room = twelve st in
-    record { room = room; count = count-fine (st .args .job) room (none-out c); range = job-in-range (st .args .job) room (none-out c) }
+    record { types = room; count = count-fine (st .args .job) room (none-out c); numbers = job-in-range (st .args .job) room (none-out c) }
 
 first-out-of-range-requires : tie.Need-first-out-of-range-requires
 first-out-of-range-requires c κs = search needs
@@ -52,7 +51,7 @@ returns-2 : tie.Need-returns-2
 returns-2 c =
     let known = c .before in
     let st = known .before .before .before .before in
-    verdict-in-range (st .args .job) (st .args .list .now) (none-out known) (same-numbers (st .args .job) (fine-job known .room) (none-out known)) (c .check-in-range .ensures)
+    verdict-in-range (st .args .job) (st .args .list .now) (none-out known) (same-numbers (st .args .job) (fine-job known .types) (none-out known)) (c .check-in-range .ensures)
 
 pub check-list-spec : {M : Type 1} → statement M
 check-list-spec =

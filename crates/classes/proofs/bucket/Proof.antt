@@ -1,12 +1,12 @@
 -- `classes::bucket` meets its contract. Assumes nothing.
-use Prim.Native.Nat.{_-_, _%_}
+use Prim.Native.Nat.{_-_, _*_, _/_}
 use native.Mathlib.Omega.{arith}
-use native.Mathlib.Nat.{mod-lt}
+use native.Mathlib.Nat.{mul-le-mul}
 use mathlib.Core.Path.{_≡_, ap}
 use lib.ListN.{length}
 use Rattle.rules.specs.Limits.{typesMost}
-use Rattle.classes.specs.Directory.{bucketOf}
-use Rattle.classes.proofs.Laws.{Weighing, weighing-start, weighing-more, weighing-end}
+use Rattle.classes.specs.Directory.{weightMost, bucketOf}
+use Rattle.classes.proofs.Laws.{Weighing, weighing-start, weighing-more, weighing-end, within-range}
 use borrow.Author.Needs.{needs}
 use Rattle.classes.proofs.bucket.Statement.{statement}
 use Rattle.classes.proofs.bucket.Tie as tie
@@ -41,15 +41,18 @@ loop-again c =
     let st = at .before in
     weighing-more (st .args .types) (st .args .t1) (at .loop .sum) (at .loop .i) _ (at .loop .inv) (omega (arith, c .before .loop-test .taken)) (omega (arith, counts-len st, st .pre .0)) (c .weigh .ensures .0) (c .weigh .ensures .1)
 
-rem-result : tie.Need-rem-result Inv-loop μ-loop
-rem-result c = search needs
+mul-result : tie.Need-mul-result Inv-loop μ-loop
+mul-result c =
+    let at = c .before in
+    let st = at .before in
+    omega (arith, mul-le-mul (at .loop .inv .small) (st .pre .2))
 
 returns : tie.Need-returns Inv-loop μ-loop
 unfolding bucketOf
 returns c =
     let at = c .before in
     let st = at .before in
-    (ap (λ k. k % (st .args .buckets)) (weighing-end (st .args .types) (st .args .t1) _ _ (at .loop .inv) (omega (arith, c .loop-test .left))), mod-lt _ (st .pre .1))
+    (ap (λ k. k * (st .args .buckets) / weightMost) (weighing-end (st .args .types) (st .args .t1) _ _ (at .loop .inv) (omega (arith, c .loop-test .left))), within-range (at .loop .inv .small) (st .pre .1))
 
 pub bucket-spec : {M : Type 1} → statement M
 bucket-spec =
@@ -63,5 +66,5 @@ bucket-spec =
     add-i
     loop-less
     loop-again
-    rem-result
+    mul-result
     returns)

@@ -3,7 +3,7 @@ use mathlib.Core.Path.{ap, _∙_}
 use mathlib.Core.Bool.{true≢false}
 use Prim.Native.Nat.{_-_, _*_}
 use native.Mathlib.Omega.{arith}
-use borrow.Author.Tests.{leb-false}
+use borrow.Author.Tests.{eqb-false}
 use Rattle.arena.specs.Records.{linkAt}
 use Rattle.classes.specs.Orders.{sizeIn}
 use Rattle.outline.specs.Stands.{wayOf}
@@ -51,13 +51,6 @@ returns c =
     let s = st .args .arena .now in
     λ _. idle-small (st .pre) (st .args .way) _ _ (li .link-at .ensures .0 ∙ ap (linkAt s (st .args .a)) (nu .number-of .ensures)) (sz .size-at .ensures .0 ∙ ap (λ w. sizeIn s w (li .link-at .result)) (nu .number-of .ensures)) (omega (arith, c .if1 .taken, si .side-of .ensures, lo .least-of .ensures))
 
-pieces-at-requires : tie.Need-pieces-at-requires
-pieces-at-requires c κs = search needs
-
-returns-2 : tie.Need-returns-2
-returns-2 c =
-    λ e. absurd (true≢false e)
-
 other-requires : tie.Need-other-requires
 other-requires c κs = search needs
 
@@ -74,7 +67,7 @@ link-at-requires-2 : tie.Need-link-at-requires-2
 link-at-requires-2 c κs =
     let nu = c .before in
     let ot = nu .before in
-    let st = ot .before .before .before .before .before .before .before .before .before .before in
+    let st = ot .before .before .before .before .before .before .before .before in
     (omega (arith, c .end-of .ensures .0, st .pre .class .some, st .pre .class .ends, st .pre .room), omega (arith, two-ways (ot .other .result) (nu .number-of2 .ensures)))
 
 size-at-requires-2 : tie.Need-size-at-requires-2
@@ -82,7 +75,7 @@ size-at-requires-2 c κs =
     let en = c .before in
     let nu = en .before in
     let ot = nu .before in
-    let st = ot .before .before .before .before .before .before .before .before .before .before in
+    let st = ot .before .before .before .before .before .before .before .before in
     let two = two-ways (ot .other .result) (nu .number-of2 .ensures) in
     let e = en .end-of .ensures .0 in
     let some = st .pre .class .some in
@@ -91,26 +84,33 @@ size-at-requires-2 c κs =
 least-of-requires-2 : tie.Need-least-of-requires-2
 least-of-requires-2 c κs = search needs
 
-mul-result : tie.Need-mul-result
-mul-result c =
+mul-if2 : tie.Need-mul-if2
+mul-if2 c =
     let ot = c .before .before .before .before .before in
-    let st = ot .before .before .before .before .before .before .before .before .before .before in
+    let st = ot .before .before .before .before .before .before .before .before in
     omega (arith, c .least-of2 .ensures, least-small (st .pre .least-of) (wayOf (ot .other .result)))
+
+returns-2 : tie.Need-returns-2
+returns-2 c =
+    λ e. absurd (true≢false e)
+
+pieces-at-requires : tie.Need-pieces-at-requires
+pieces-at-requires c κs = search needs
 
 returns-3 : tie.Need-returns-3
 returns-3 c =
-    let sz = c .before in
+    let more = c .before in
+    let le = more .before in
+    let sz = le .before in
     let li = sz .before in
     let en = li .before in
     let nu = en .before in
     let ot = nu .before in
-    let more = ot .before in
-    let pi = more .before in
-    let st = pi .before .before .before .before .before .before .before .before in
+    let st = ot .before .before .before .before .before .before .before .before in
     let s = st .args .arena .now in
     let last = en .end-of .result - 1 in
     let some = st .pre .class .some in
-    λ e. idle-thin (st .pre) (st .args .way) (ot .other .result) (ot .other .ensures) _ last _ _ (pi .pieces-at .ensures .0) (more .if2 .left) (omega (arith, en .end-of .ensures .0)) (li .link-at2 .ensures .0 ∙ ap (linkAt s last) (nu .number-of2 .ensures)) (sz .size-at2 .ensures .0 ∙ ap (λ w. sizeIn s w (li .link-at2 .result)) (nu .number-of2 .ensures)) (omega (arith, leb-false (2 * c .least-of2 .result) (sz .size-at2 .result) e, c .least-of2 .ensures))
+    λ e. idle-thin (st .pre) (st .args .way) (ot .other .result) (ot .other .ensures) _ last _ _ (c .pieces-at .ensures .0) (eqb-false _ _ e) (omega (arith, en .end-of .ensures .0)) (li .link-at2 .ensures .0 ∙ ap (linkAt s last) (nu .number-of2 .ensures)) (sz .size-at2 .ensures .0 ∙ ap (λ w. sizeIn s w (li .link-at2 .result)) (nu .number-of2 .ensures)) (omega (arith, more .if2 .left, le .least-of2 .ensures))
 
 pub can-join-spec : {M : Type 1} → statement M
 can-join-spec =
@@ -123,8 +123,6 @@ can-join-spec =
     least-of-requires
     add-if1
     returns
-    pieces-at-requires
-    returns-2
     other-requires
     number-of-requires-2
     end-of-requires
@@ -132,5 +130,7 @@ can-join-spec =
     link-at-requires-2
     size-at-requires-2
     least-of-requires-2
-    mul-result
+    mul-if2
+    returns-2
+    pieces-at-requires
     returns-3)

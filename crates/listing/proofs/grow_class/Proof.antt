@@ -10,19 +10,22 @@ use Rattle.listing.proofs.grow_class.Statement.{statement}
 use Rattle.listing.proofs.grow_class.Tie as tie
 
 abbrev Inv-loop : tie.InvT-loop
-Inv-loop job arena₀ start half counts least types n₀ p₀ arena n p = Walking job least arena₀ start (take (job .count) counts) arena n p
+Inv-loop job arena₀ start half counts least bounds n₀ p₀ arena n p = Walking job least arena₀ start (take (job .count) counts) arena n p
 
 abbrev μ-loop : tie.MeasureT-loop
-μ-loop job arena₀ start half counts least types n₀ p₀ arena n p = half - p
+μ-loop job arena₀ start half counts least bounds n₀ p₀ arena n p = half - p
+
+bounds-of-requires : tie.Need-bounds-of-requires Inv-loop μ-loop
+bounds-of-requires c κs = c .before .pre .ready .range .count
 
 loop-holds : tie.Need-loop-holds Inv-loop μ-loop
-loop-holds c = walk-start (c .before .pre)
+loop-holds c = walk-start (c .before .before .pre)
 
 end-of-requires : tie.Need-end-of-requires Inv-loop μ-loop
 end-of-requires c κs =
     let il = c .before in
     let at = il .before in
-    let st = at .before .before in
+    let st = at .before .before .before in
     let k = walk-class (st .pre) (at .loop .inv) (il .loop-test .taken) in
     omega (arith, k .some, k .ends, at .loop .inv .came .growing .directory .room)
 
@@ -30,9 +33,9 @@ within-at-requires : tie.Need-within-at-requires Inv-loop μ-loop
 within-at-requires c κs =
     let il = c .before .before .before in
     let at = il .before in
-    let st = at .before .before in
+    let st = at .before .before .before in
     let k = walk-class (st .pre) (at .loop .inv) (il .loop-test .taken) in
-    (omega (arith, k .some, k .ends, at .loop .inv .came .growing .directory .room), st .pre .ready .range .count)
+    omega (arith, k .some, k .ends, at .loop .inv .came .growing .directory .room)
 
 add-class-requires : tie.Need-add-class-requires Inv-loop μ-loop
 add-class-requires c κs =
@@ -40,8 +43,8 @@ add-class-requires c κs =
     let wi = y .before in
     let il = wi .before .before .before .before in
     let at = il .before in
-    let st = at .before .before in
-    walk-halving (st .pre) (at .loop .inv) (il .loop-test .taken) (sym (wi .within-at .ensures) ∙ y .if1 .taken)
+    let st = at .before .before .before in
+    walk-halving (st .pre) (at .loop .inv) (il .loop-test .taken) (sym (wi .within-at .ensures _ _ (at .before .bounds-of .ensures)) ∙ y .if1 .taken)
 
 enum-told : tie.Need-enum-told Inv-loop μ-loop
 enum-told c = search needs
@@ -56,7 +59,7 @@ returns : tie.Need-returns Inv-loop μ-loop
 returns c =
     let d = c .before .before .before .before in
     let at = d .before .before .before .before .before .before .before .before in
-    let st = at .before .before in
+    let st = at .before .before .before in
     too-many-then (st .args .job) (st .args .arena .now) (at .loop .arena) (at .loop .inv .came .kept .same-length) (rw (c .enum-told .given .1) at (d .add-class .ensures))
 
 enum-known-m : tie.Need-enum-known-m Inv-loop μ-loop
@@ -68,7 +71,7 @@ loop-less c =
     let en = d .before .before .before .before .before in
     let il = en .before .before in
     let at = il .before in
-    let st = at .before .before in
+    let st = at .before .before .before in
     let k = walk-class (st .pre) (at .loop .inv) (il .loop-test .taken) in
     omega (arith, il .loop-test .taken, k .some, en .end-of .ensures .0)
 
@@ -78,7 +81,7 @@ loop-again c =
     let en = d .before .before .before .before .before in
     let il = en .before .before in
     let at = il .before in
-    let st = at .before .before in
+    let st = at .before .before .before in
     subst (Walking (st .args .job) (st .args .least) (st .args .arena .now) (st .args .start) (take (st .args .job .count) (st .args .counts)) _ _) (sym (en .end-of .ensures .0))
     (walk-next (st .pre) (at .loop .inv) (il .loop-test .taken) (rw (c .before .m .given .1) at (d .add-class .ensures)))
 
@@ -87,7 +90,7 @@ loop-less-2 c =
     let en = c .before .before .before in
     let il = en .before .before in
     let at = il .before in
-    let st = at .before .before in
+    let st = at .before .before .before in
     let k = walk-class (st .pre) (at .loop .inv) (il .loop-test .taken) in
     omega (arith, il .loop-test .taken, k .some, en .end-of .ensures .0)
 
@@ -97,9 +100,9 @@ loop-again-2 c =
     let en = wi .before .before in
     let il = en .before .before in
     let at = il .before in
-    let st = at .before .before in
+    let st = at .before .before .before in
     subst (Walking (st .args .job) (st .args .least) (st .args .arena .now) (st .args .start) (take (st .args .job .count) (st .args .counts)) _ _) (sym (en .end-of .ensures .0))
-    (walk-past (st .pre) (at .loop .inv) (il .loop-test .taken) (sym (wi .within-at .ensures) ∙ c .if1 .left))
+    (walk-past (st .pre) (at .loop .inv) (il .loop-test .taken) (sym (wi .within-at .ensures _ _ (at .before .bounds-of .ensures)) ∙ c .if1 .left))
 
 same-length-2 : tie.Need-same-length-2 Inv-loop μ-loop
 same-length-2 c = c .before .loop .inv .came .kept .same-length
@@ -107,7 +110,7 @@ same-length-2 c = c .before .loop .inv .came .kept .same-length
 returns-2 : tie.Need-returns-2 Inv-loop μ-loop
 returns-2 c =
     let at = c .before in
-    let st = at .before .before in
+    let st = at .before .before .before in
     walk-end (st .pre) (at .loop .inv) (omega (arith, c .loop-test .left))
 
 pub grow-class-spec : {M : Type 1} → statement M
@@ -116,6 +119,7 @@ grow-class-spec =
     (tie.spec
     Inv-loop
     μ-loop
+    bounds-of-requires
     loop-holds
     end-of-requires
     within-at-requires

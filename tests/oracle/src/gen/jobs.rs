@@ -21,6 +21,18 @@ pub fn planner_job(rng: &mut Rng) -> Draft {
     random_job(rng)
 }
 
+/// A random job with 1,500 to 30,000 outlines.
+pub fn large_job(rng: &mut Rng) -> Draft {
+    loop {
+        let draft = crowded_job(rng);
+        let job = draft.job().ok();
+        let outlines = job.as_ref().and_then(|job| Outlines::within(job, 30_000));
+        if outlines.is_some_and(|outlines| outlines.number() >= 1_500) {
+            return draft;
+        }
+    }
+}
+
 pub fn random_job(rng: &mut Rng) -> Draft {
     let mut draft = match rng.below(20) {
         0..=9 => small_job(rng),
@@ -133,6 +145,29 @@ fn many_types_job(rng: &mut Rng) -> Draft {
         types,
         list: Vec::new(),
     }
+}
+
+/// 4 to 12 types, most of which go together in several ways.
+fn crowded_job(rng: &mut Rng) -> Draft {
+    let (length, width) = (rng.between(20, 100), rng.between(20, 60));
+    let count = rng.between(4, 12) as usize;
+    let most = rng.between(1, 5);
+    let types = iter::repeat_with(|| {
+        let l = rng.between(length / 7, length * 2 / 3);
+        let w = rng.between(width / 7, width * 2 / 3);
+        [l, w, 1, rng.between(1, most)]
+    });
+    let types = types.take(count).collect();
+    let mut draft = Draft {
+        sheet: [length, width, kerf(rng)],
+        types,
+        list: Vec::new(),
+    };
+    if rng.one_in(2) {
+        turn(&mut draft);
+    }
+    set_profits(rng, &mut draft);
+    draft
 }
 
 /// One type that fits the sheet exactly, is one too long or one too wide.

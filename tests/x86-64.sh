@@ -42,10 +42,12 @@ need_cc() {
 need_rustc() {
     need_cc
     target=x86_64-unknown-linux-gnu
+    # what Rust links statically: the cross compiler's libm.a only names the files of libc6-dev:amd64
+    [ "$(uname -m)" = x86_64 ] || [ -e /usr/lib/x86_64-linux-gnu/libm.a ] || { dpkg --add-architecture amd64 && install libc6-dev:amd64; } || skip 'no static C library for Rust (Debian: libc6-dev:amd64)'
     for RUSTC in "${RUSTC:-rustc}" /usr/bin/rustc; do
         has_rust && return
     done
-    [ "$(uname -m)" = x86_64 ] || { dpkg --add-architecture amd64 && install rustc libstd-rust-dev:amd64; } || true
+    [ "$(uname -m)" = x86_64 ] || install rustc libstd-rust-dev:amd64 || true
     has_rust || skip "no Rust for $target (Debian: rustc libstd-rust-dev:amd64)"
 }
 

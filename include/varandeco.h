@@ -6,8 +6,8 @@
  * memset, and may run at the same time on slices of their own. What is proved ends at this header: that its declarations match the library
  * is only run (tests/c-example).
  *
- * STACK. Measured on x86-64: planning takes 5 KB, or 3.4 KB and 128 bytes for each piece of the plan where that is more; no plan has more than 124 pieces
- * (every part of its pieces is an outline too), so up to 20 KB. Checking a list of 600 placements takes up to 160 KB, and a plan text of 600 up to 220 KB
+ * STACK. Measured on x86-64: planning takes 7 KB, or 5 KB and 128 bytes for each piece of the plan where that is more; no plan has more than 124 pieces
+ * (every part of its pieces is an outline too), so up to 21 KB. Checking a list of 600 placements takes up to 160 KB, and a plan text of 600 up to 220 KB
  * (two calls nested for each piece, the most that there can be). Lists of fewer pieces take less: 21 KB, or 80 KB for a text, and 230 bytes a piece.
  *
  * SLICES. A slice is a pointer and the number of its elements (not bytes). Its pointer may be NULL where its length is 0. Otherwise it points to that

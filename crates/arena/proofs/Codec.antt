@@ -118,47 +118,6 @@ behind-steps l w k s s1 s2 s3 s4 z h e1 e2 e3 e4 ez =
     let f : take 9 s5 ≡ two l (two w (two (k .first) (two (k .second) (k .kind ∷ [])))) = ap (λ t. take 9 (set t 8 (k .kind))) (e4 ∙ ap (λ t. putWord t 6 (k .second)) (e3 ∙ ap (λ t. putWord t 4 (k .first)) (e2 ∙ ap (λ t. putWord t 2 w) e1))) ∙ front s l w (k .first) (k .second) (k .kind) h in
     rw (ez, hz, hk, none, f) refl
 
--- the test of counts, place by place
-pub same-here : (n : ℕ) (a b : List ℕ) (i : ℕ) → i < n → i < length a → i < length b → (getD a i 0 ≡ getD b i 0 → ⊥) → sameList (take n a) (take n b) ≡ false
-same-here zero a b i h l m p = absurd (omega arith)
-same-here (suc n) [] b i h l m p = absurd (omega arith)
-same-here (suc n) (x ∷ a) [] i h l m p = refl
-same-here (suc n) (x ∷ a) (y ∷ b) zero h l m p = and-false-left (sameList (take n a) (take n b)) (ne-eqb x y p)
-same-here (suc n) (x ∷ a) (y ∷ b) (suc i) h l m p = and-false-right (eqb x y) (same-here n a b i (omega arith) (omega arith) (omega arith) p)
-
-pub same-all : (n : ℕ) (a b : List ℕ) → n ≤ length a → n ≤ length b → ((i : ℕ) → i < n → getD a i 0 ≡ getD b i 0) → sameList (take n a) (take n b) ≡ true
-same-all zero a b l m p = refl
-same-all (suc n) [] b l m p = absurd (omega arith)
-same-all (suc n) (x ∷ a) [] l m p = absurd (omega arith)
-same-all (suc n) (x ∷ a) (y ∷ b) l m p = both-and (eq-eqb x y (p 0 (omega arith))) (same-all n a b (omega arith) (omega arith) (λ i h. p (suc i) (omega arith)))
-
--- one place more, where there is no more than the bound
-pub at-most-next : (i : ℕ) (c ds : List ℕ) → i < length ds → getD c i 0 ≤ getD ds i 0 → atMost (take (i + 1) c) ds ≡ atMost (take i c) ds
-at-most-next i c ds h p = ap (λ n. atMost (take n c) ds) (add-one i) ∙ go i c ds h p
-  where
-    go : (i : ℕ) (c ds : List ℕ) → i < length ds → getD c i 0 ≤ getD ds i 0 → atMost (take (suc i) c) ds ≡ atMost (take i c) ds
-    go zero [] ds h p = refl
-    go (suc i) [] ds h p = refl
-    go i (x ∷ c) [] h p = absurd (omega arith)
-    go zero (x ∷ c) (d ∷ ds) h p = both-and (le-leb x d p) refl
-    go (suc i) (x ∷ c) (d ∷ ds) h p = ap (λ b. leb x d && b) (go i c ds (omega arith) p)
-
--- the places past the first n do not count, where there is no more than the bounds
-pub at-most-past : (n : ℕ) (c ds : List ℕ) → length c ≤ length ds → ((i : ℕ) → n ≤ i → i < length c → getD c i 0 ≤ getD ds i 0) → atMost c ds ≡ atMost (take n c) (take n ds)
-at-most-past zero [] ds l p = refl
-at-most-past (suc n) [] ds l p = refl
-at-most-past n (x ∷ c) [] l p = absurd (omega arith)
-at-most-past zero (x ∷ c) (d ∷ ds) l p = both-and (le-leb x d (p 0 (omega arith) (omega arith))) (at-most-past zero c ds (omega arith) (λ i h k. p (suc i) (omega arith) (omega arith)))
-at-most-past (suc n) (x ∷ c) (d ∷ ds) l p = ap (λ b. leb x d && b) (at-most-past n c ds (omega arith) (λ i h k. p (suc i) (omega arith) (omega arith)))
-
--- counts that are added up place by place
-pub plus-all : (n : ℕ) (a b c : List ℕ) → n ≤ length a → n ≤ length b → n ≤ length c → ((i : ℕ) → i < n → getD a i 0 + getD b i 0 ≡ getD c i 0) → plus (take n a) (take n b) ≡ take n c
-plus-all zero a b c l m k p = refl
-plus-all (suc n) [] b c l m k p = absurd (omega arith)
-plus-all (suc n) (x ∷ a) [] c l m k p = absurd (omega arith)
-plus-all (suc n) (x ∷ a) (y ∷ b) [] l m k p = absurd (omega arith)
-plus-all (suc n) (x ∷ a) (y ∷ b) (z ∷ c) l m k p = λ j. p 0 (omega arith) j ∷ plus-all n a b c (omega arith) (omega arith) (omega arith) (λ i h. p (suc i) (omega arith)) j
-
 -- one piece more among the first n types
 pub more-of : (n t : ℕ) (c : List ℕ) → t < n → take n (set c t (getD c t 0 + 1)) ≡ oneMore t (take n c)
 more-of n t c h = take-set-lt n c t (getD c t 0 + 1) h ∙ ap (set (take n c) t) (add-one (getD c t 0) ∙ ap suc (sym (getD-take n c t 0 h))) ∙ sym (more-set t (take n c))

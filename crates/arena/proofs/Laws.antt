@@ -13,10 +13,12 @@ use Rattle.rules.specs.Planner.{roomOf}
 use Rattle.outline.specs.Stands.{twoBytes}
 use Rattle.rules.proofs.Outlines.{atMost}
 use Rattle.rules.proofs.Unfold.{noRec, at}
+use Rattle.tally.specs.Bounds.{byteMost, boundsMost, BoundsOf}
+use Rattle.tally.proofs.Laws.{at-most-past}
 use Rattle.arena.specs.declared.Record.{Record}
 use Rattle.arena.specs.Bytes.{word, putWord, howOf, lengthAt, widthAt, firstAt, secondAt, kindAt, encode, decode, chunk, putChunk}
-use Rattle.arena.specs.Records.{recordAt, sizeOf, recOf, recs, Storable, Stored, StoredAlone, linksMost, linksAt, linkPlace, linkAt, Linkable, Linked, byteMost, boundsMost, BoundsOf}
-use Rattle.arena.proofs.Codec.{decode-encode, length-encode, length-put, at-most-past}
+use Rattle.arena.specs.Records.{recordAt, sizeOf, recOf, recs, Storable, Stored, StoredAlone, linksMost, linksAt, linkPlace, linkAt, Linkable, Linked}
+use Rattle.arena.proofs.Codec.{decode-encode, length-encode, length-put}
 
 -- a record of the room has its bytes
 pub room-bytes : (i n : ℕ) → i < roomOf n → i * recordBytes + recordBytes ≤ n

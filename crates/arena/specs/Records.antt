@@ -2,8 +2,8 @@
 use mathlib.Core.Path.{_≡_}
 use mathlib.Core.List.{List, [], _∷_, _++_}
 use Prim.Native.Nat.{ℕ, zero, suc, _+_, _*_, _≤_, _<_}
-use lib.ListN.{length, getD, take}
-use Rattle.rules.specs.Limits.{typesMost, recordBytes}
+use lib.ListN.{length}
+use Rattle.rules.specs.Limits.{recordBytes}
 use Rattle.rules.specs.Planner.{roomOf}
 use Rattle.rules.proofs.Unfold.{Maker, piece, joined, Rec}
 use Rattle.outline.specs.declared.Outline.{Outline}
@@ -20,13 +20,6 @@ recordAt s i = decode (chunk s i)
 abbrev pub sizeOf : ℕ → Outline → ℕ
 sizeOf zero o = o .length .0
 sizeOf (suc w) o = o .width .0
-
--- the most that a count can be, and that the counts of a record can add up to
-abbrev pub byteMost : ℕ
-byteMost = 255
-
-abbrev pub countsMost : ℕ
-countsMost = typesMost * byteMost
 
 -- what a record stands for in a job of n types
 abbrev pub makerOf : Outline → How → Maker
@@ -90,13 +83,3 @@ pub record Linked (i k v : ℕ) (before after : List ℕ) : Type 0 where
 pub record Loaded (d r : Record) : Type 0 where
   pub is : r ≡ d
   pub sized : Sized (r .outline)
-
--- so many bytes of a record are compared with bounds at once
-abbrev pub boundsMost : ℕ
-boundsMost = 16
-
--- r bounds the counts of so many types by c, and no byte behind them
-pub record BoundsOf (types : ℕ) (c r : List ℕ) : Type 0 where
-  pub few : types ≤ typesMost
-  pub counts : take types r ≡ take types c
-  pub behind : (i : ℕ) → types ≤ i → i < boundsMost → getD r i 0 ≡ byteMost

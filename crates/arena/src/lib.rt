@@ -9,6 +9,7 @@ use outline::Way;
 use shapes::RECORD_BYTES;
 use shapes::RECORDS_MOST;
 use shapes::TYPES_MOST;
+use tally::BOUNDS;
 ghost use mathlib.Core.Path.{_≡_};
 ghost use mathlib.Core.Bool.{true};
 ghost use mathlib.Core.List.{List};
@@ -20,9 +21,10 @@ ghost use Rattle.rules.specs.Job.{plus};
 ghost use Rattle.rules.specs.Planner.{roomOf};
 ghost use Rattle.rules.proofs.Outlines.{sameList, sameOutline, atMost};
 ghost use Rattle.rules.proofs.Classes.{oneMore};
+ghost use Rattle.tally.specs.Bounds.{byteMost, countsMost, BoundsOf};
 ghost use Rattle.outline.specs.Stands.{outlineOf, twoBytes};
 ghost use Rattle.arena.specs.Bytes.{word, putWord, behind, linkOf, howOf, encode, decode};
-ghost use Rattle.arena.specs.Records.{recordAt, sizeOf, byteMost, countsMost, linkAt, linksMost, Storable, StoredAlone, Loaded, Linkable, Linked, boundsMost, BoundsOf};
+ghost use Rattle.arena.specs.Records.{recordAt, sizeOf, linkAt, linksMost, Storable, StoredAlone, Loaded, Linkable, Linked};
 
 // A piece of a type, numbered from 1, or a join of two records that stand before.
 pub enum How {
@@ -47,12 +49,6 @@ const SECOND_AT: usize = 18;
 const KIND_AT: usize = 20;
 
 const LINKS_AT: usize = 22;
-
-// A machine compares so many bytes at once: the counts of a record, and a few bytes behind them that get no bound.
-pub const BOUNDS: usize = 16;
-
-// The bound of a byte that has none.
-const BYTE_MOST: u8 = 255;
 
 // `How` in numbers: 0 for a piece, 1 for a join beside, 2 for a join above.
 pub struct Link {
@@ -97,18 +93,12 @@ fn how_of(link: Link) -> How
     How::Joined(Way::Above, link.first, link.second)
 }
 
-fn wide(x: u8) -> u64
-    ensures { λ r. ⌜ (r ≡ x) × (r < 256) ⌝ }
-{
-    x as u64
-}
-
 // Two bytes, the low one first.
 fn get(s: &[u8], at: usize) -> u64
     requires { ⌜ at + 1 < length (now s) ⌝ }
     ensures { λ r. ⌜ (r ≡ word (now (s .entry)) at) × (r < twoBytes) ⌝ }
 {
-    wide(s[at]) + 256 * wide(s[at + 1])
+    tally::wide(s[at]) + 256 * tally::wide(s[at + 1])
 }
 
 fn put(s: &mut [u8], at: usize, v: u64)
@@ -117,30 +107,6 @@ fn put(s: &mut [u8], at: usize, v: u64)
 {
     s[at] = (v % 256) as u8;
     s[at + 1] = (v / 256 % 256) as u8;
-}
-
-fn put_counts(s: &mut [u8], counts: [u8; TYPES_MOST])
-    requires { ⌜ length (now s) ≡ typesMost ⌝ }
-    ensures { λ _. ⌜ now (s .exit) ≡ counts ⌝ }
-{
-    let mut i = 0;
-    while i < TYPES_MOST {
-        s[i] = counts[i];
-        i += 1;
-    }
-}
-
-fn counts_of(s: &[u8]) -> [u8; TYPES_MOST]
-    requires { ⌜ length (now s) ≡ recordBytes ⌝ }
-    ensures { λ r. ⌜ r ≡ take typesMost (now (s .entry)) ⌝ }
-{
-    let mut r = [0u8; TYPES_MOST];
-    let mut i = 0;
-    while i < TYPES_MOST {
-        r[i] = s[i];
-        i += 1;
-    }
-    r
 }
 
 // '"Zeros" means every byte lent.'
@@ -182,7 +148,7 @@ fn write(s: &mut [u8], r: Record)
 {
     let counts = r.outline.counts;
     let how = r.how;
-    put_counts(&mut s[..TYPES_MOST], counts);
+    tally::put_counts(&mut s[..TYPES_MOST], counts);
     write_behind(
         &mut s[TYPES_MOST..],
         r.outline.length.0,
@@ -195,7 +161,7 @@ fn read(s: &[u8]) -> Record
     requires { ⌜ length (now s) ≡ recordBytes ⌝ }
     ensures { λ r. ⌜ Loaded (decode (now (s .entry))) r ⌝ }
 {
-    let counts = counts_of(s);
+    let counts = tally::counts_of(s);
     let length = get(s, LENGTH_AT);
     let width = get(s, WIDTH_AT);
     let first = get(s, FIRST_AT) as usize;
@@ -236,22 +202,6 @@ pub fn load(arena: &[u8], i: usize) -> Record
     read(&arena[at..end])
 }
 
-// The first n counts of a record are these.
-fn same_counts(s: &[u8], counts: [u8; TYPES_MOST], n: usize) -> bool
-    requires { ⌜ (length (now s) ≡ recordBytes) × (n ≤ typesMost) ⌝ }
-    ensures { λ r. ⌜ r ≡ sameList (take n counts) (take n (take typesMost (now (s .entry)))) ⌝ }
-{
-    let mut i = 0;
-    while i < n {
-        let at = i;
-        i += 1;
-        if counts[at] != s[at] {
-            return false;
-        }
-    }
-    true
-}
-
 fn same(s: &[u8], o: Outline, types: usize) -> bool
     requires { ⌜ (length (now s) ≡ recordBytes) × (types ≤ typesMost) ⌝ }
     ensures { λ r. ⌜ r ≡ sameOutline (outlineOf types o) (outlineOf types (decode (now (s .entry)) .outline)) ⌝ }
@@ -263,7 +213,7 @@ fn same(s: &[u8], o: Outline, types: usize) -> bool
         return false;
     }
     let counts = o.counts;
-    same_counts(s, counts, types)
+    tally::same_counts(s, counts, types)
 }
 
 // Record i has this outline, for a job of so many types.
@@ -307,7 +257,7 @@ pub fn counts_at(arena: &[u8], i: usize, counts: [u8; TYPES_MOST], types: usize)
 {
     let at = i * RECORD_BYTES;
     let end = at + RECORD_BYTES;
-    same_counts(&arena[at..end], counts, types)
+    tally::same_counts(&arena[at..end], counts, types)
 }
 
 // The count of type t, counted from 0, in record i.
@@ -318,37 +268,6 @@ pub fn count_at(arena: &[u8], i: usize, t: usize) -> u8
     arena[i * RECORD_BYTES + t]
 }
 
-// These counts as bounds, for a job of so many types.
-pub fn bounds_of(counts: [u8; TYPES_MOST], types: usize) -> [u8; BOUNDS]
-    requires { ⌜ types ≤ typesMost ⌝ }
-    ensures { λ r. ⌜ BoundsOf types counts r ⌝ }
-{
-    let mut r = [BYTE_MOST; BOUNDS];
-    let mut i = 0;
-    while i < types {
-        r[i] = counts[i];
-        i += 1;
-    }
-    r
-}
-
-// The first bytes of a record are at most these. There is no early end, so that the loop becomes one comparison: most records are over somewhere, and nothing foretells where.
-fn within(s: &[u8], bounds: [u8; BOUNDS]) -> bool
-    requires { ⌜ length (now s) ≡ recordBytes ⌝ }
-    ensures { λ r. ⌜ r ≡ atMost (take boundsMost (now (s .entry))) bounds ⌝ }
-{
-    let mut fit = true;
-    let mut i = 0;
-    while i < BOUNDS {
-        let at = i;
-        i += 1;
-        if bounds[at] < s[at] {
-            fit = false;
-        }
-    }
-    fit
-}
-
 // Record i has no more of any type than the counts that these bounds are of.
 pub fn within_at(arena: &[u8], i: usize, bounds: [u8; BOUNDS]) -> bool
     requires { ⌜ i < roomOf (length (now arena)) ⌝ }
@@ -356,21 +275,7 @@ pub fn within_at(arena: &[u8], i: usize, bounds: [u8; BOUNDS]) -> bool
 {
     let at = i * RECORD_BYTES;
     let end = at + RECORD_BYTES;
-    within(&arena[at..end], bounds)
-}
-
-// These counts less the first n of a record.
-fn rest(s: &[u8], counts: [u8; TYPES_MOST], n: usize) -> [u8; TYPES_MOST]
-    requires { ⌜ (length (now s) ≡ recordBytes) × (n ≤ typesMost) × (atMost (take n (take typesMost (now s))) (take n counts) ≡ true) ⌝ }
-    ensures { λ r. ⌜ plus (take n (take typesMost (now (s .entry)))) (take n r) ≡ take n counts ⌝ }
-{
-    let mut r = counts;
-    let mut i = 0;
-    while i < n {
-        r[i] = counts[i] - s[i];
-        i += 1;
-    }
-    r
+    tally::within(&arena[at..end], bounds)
 }
 
 // What is left of these counts when those of record i are taken away, for a job of so many types.
@@ -380,21 +285,7 @@ pub fn rest_at(arena: &[u8], i: usize, counts: [u8; TYPES_MOST], types: usize) -
 {
     let at = i * RECORD_BYTES;
     let end = at + RECORD_BYTES;
-    rest(&arena[at..end], counts, types)
-}
-
-// The first n counts of a record, added up.
-fn pieces(s: &[u8], n: usize) -> usize
-    requires { ⌜ (length (now s) ≡ recordBytes) × (n ≤ typesMost) ⌝ }
-    ensures { λ r. ⌜ (r ≡ sum (take n (take typesMost (now (s .entry))))) × (r ≤ countsMost) ⌝ }
-{
-    let mut r = 0;
-    let mut i = 0;
-    while i < n {
-        r += wide(s[i]) as usize;
-        i += 1;
-    }
-    r
+    tally::rest(&arena[at..end], counts, types)
 }
 
 // The number of pieces of record i, for a job of so many types.
@@ -404,7 +295,7 @@ pub fn pieces_at(arena: &[u8], i: usize, types: usize) -> usize
 {
     let at = i * RECORD_BYTES;
     let end = at + RECORD_BYTES;
-    pieces(&arena[at..end], types)
+    tally::pieces(&arena[at..end], types)
 }
 
 // The counts of record i with one piece more of type t, counted from 0, for a job of so many types.
@@ -414,7 +305,7 @@ pub fn more_at(arena: &[u8], i: usize, t: usize, types: usize) -> [u8; TYPES_MOS
 {
     let at = i * RECORD_BYTES;
     let end = at + RECORD_BYTES;
-    let mut r = counts_of(&arena[at..end]);
+    let mut r = tally::counts_of(&arena[at..end]);
     r[t] += 1;
     r
 }

@@ -70,6 +70,11 @@ pub record Directory (types : ℕ) (s : List ℕ) (n : ℕ) : Type 0 where
 abbrev pub Begins : ℕ → List ℕ → ℕ → Type 0
 Begins types s p = (q : ℕ) → q < p → countsAt types s q ≡ countsAt types s p → ⊥
 
+-- a place where a class begins, or the end
+pub record Turn (types : ℕ) (s : List ℕ) (n p : ℕ) : Type 0 where
+  pub upto : p ≤ n
+  pub begins : p < n → Begins types s p
+
 -- the class with these counts, or that no record has them
 abbrev pub FoundIn : (types : ℕ) (s : List ℕ) (n : ℕ) (c : List ℕ) → Found → Type 0
 FoundIn types s n c (At p) = Class types s n p × (countsAt types s p ≡ c)

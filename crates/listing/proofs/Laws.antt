@@ -11,11 +11,11 @@ use Rattle.rules.specs.Box.{Way}
 use Rattle.rules.specs.Job as rules
 use Rattle.rules.specs.Planner.{roomOf}
 use Rattle.rules.proofs.Accept.{job-typed}
+use Rattle.rules.proofs.Bags.{index}
 use Rattle.rules.proofs.Bridge.{join}
 use Rattle.rules.proofs.Classes.{NoneAfter, oneMore, turned, sum-more, some-pieces, Rising, Next, below-in, all-in}
 use Rattle.rules.proofs.Halves.{In, Able, whole-in, whole-over, more-at}
 use Rattle.rules.proofs.Tally.{sum-plus}
-use Rattle.rules.proofs.Worklist.{index}
 use Rattle.shapes.specs.declared.Job.{Job}
 use Rattle.shapes.specs.Handed.{numbersOf}
 use Rattle.outline.specs.declared.Least.{Least}
@@ -23,15 +23,16 @@ use Rattle.outline.specs.Stands.{jobFor, outlineOf, LeastOf, leastBy}
 use Rattle.outline.proofs.Laws.{types-count, demand-at, least-of, noPiece}
 use Rattle.arena.specs.Records.{recordAt, linkAt}
 use Rattle.arena.proofs.Laws.{recs-same}
-use Rattle.classes.specs.Directory.{endLink, Begins, Class}
+use Rattle.classes.specs.Directory.{endLink, Begins, Turn, Class, Entered}
 use Rattle.classes.proofs.Laws.{class-at, next-begins}
 use Rattle.outlines.specs.declared.Listed.{Listed}
 use Rattle.outlines.specs.Listing.{recsIn, outlinesIn, outlinesOf, noOutline, Sound, Held, Ready, AllListed}
 use Rattle.outlines.proofs.Laws.{length-outlines, outline-at, grown-self, grown-le, grown-then, outlines-stay}
 use Rattle.growing.specs.Growing.{Came}
 use Rattle.growing.proofs.Laws.{nothing-grows}
-use Rattle.listing.specs.Queue.{outlineAt, keyAt, piecesAt, WholeIn, BelowIn, NextIn, Classed, Turn, Queued, HalfAt, Followed, Follows, Sought, PairsBefore, Target, Source, Closed}
-use Rattle.listing.proofs.Targets.{build-at, key-length}
+use Rattle.pairing.specs.Pairs.{outlineAt, keyAt, Sought, PairsBefore}
+use Rattle.pairing.proofs.Laws.{build-at, key-length}
+use Rattle.listing.specs.Queue.{piecesAt, WholeIn, BelowIn, NextIn, Classed, Queued, HalfAt, Followed, Follows, Target, Source}
 
 -- what holds of a list holds where others come behind
 whole-more : (job : Job) {c : List ℕ} (l b : List rules.Outline) → WholeIn job c l → WholeIn job c (l ++ b)
@@ -53,7 +54,7 @@ module _ (job : Job) (s t : List ℕ) (n : ℕ) (len : length t ≡ length s) (s
   key-same i h = ap (λ u. take (job .count) (u .outline .counts)) (same i h)
 
 -- the class with counts c has grown, and is closed
-module _ {job : Job} {least : Least} {s : List ℕ} {start half : ℕ} {c : List ℕ} (h : Target job least s start half c) {t u : List ℕ} {n : ℕ} (g : Came job start c (PairsBefore job least s start c half) s start t n) (k : Closed (job .count) t n u) where
+module _ {job : Job} {least : Least} {s : List ℕ} {start half : ℕ} {c : List ℕ} (h : Target job least s start half c) {t u : List ℕ} {n : ℕ} (g : Came job start c (PairsBefore job least s start c half) s start t n) (k : Entered (job .count) n t u) where
   abbrev list : List rules.Outline
   list = outlinesIn job t n
 

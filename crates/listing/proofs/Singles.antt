@@ -22,12 +22,13 @@ use Rattle.outline.specs.Stands.{jobFor, outlineOf, Alone}
 use Rattle.outline.proofs.Laws.{types-count, getD-table}
 use Rattle.arena.specs.declared.How.the-variants.{Piece}
 use Rattle.arena.specs.declared.Record.{Record}
-use Rattle.classes.specs.Directory.{Directory}
+use Rattle.classes.specs.Directory.{Directory, Entered}
 use Rattle.outlines.specs.Listing.{recsIn, outlinesIn, outlinesOf, Held, OutlineIn, SingleIn, StartsIn}
 use Rattle.outlines.proofs.Laws.{SinglesIn, all-starts, grown-self, grown-then, none-held, single-addable, single-in, single-not, singles-more}
 use Rattle.growing.specs.Growing.{Came, classOf, Growable}
 use Rattle.growing.proofs.Laws.{nothing-grows}
-use Rattle.listing.specs.Queue.{keyAt, piecesAt, Queued, SinglesTo, SinglesGrown, Closed}
+use Rattle.pairing.specs.Pairs.{keyAt}
+use Rattle.listing.specs.Queue.{piecesAt, Queued, SinglesTo, SinglesGrown}
 use Rattle.listing.proofs.Laws.{recs-stay, held-stays, key-same}
 
 -- a table has none of a type where what it is made of has none
@@ -71,7 +72,7 @@ module _ {job : Job} {s : List ℕ} {n t : ℕ} (h : SinglesTo job s n t) (l : t
   }
 
   -- it came, and its class is closed
-  pub single-came : {x u : List ℕ} {m : ℕ} → Came job n (classOf job piece) (OutlineIn job piece) s n x m → Closed (job .count) x m u → SinglesGrown job (SingleIn job t) (suc t) s n u m
+  pub single-came : {x u : List ℕ} {m : ℕ} → Came job n (classOf job piece) (OutlineIn job piece) s n x m → Entered (job .count) m x u → SinglesGrown job (SingleIn job t) (suc t) s n u m
   single-came {x} {u} {m} g k = record {
     grown = record { held = held; behind = g .grown .behind; stay = same ∙ g .grown .stay; has = single-in job t o al (outlinesIn job u m) (subst (OutlineIn job piece) (ap outlinesOf (sym same)) (g .grown .has)) };
     to = record {

@@ -13,12 +13,11 @@ use Rattle.rules.specs.Made.{no-one, one}
 use Rattle.rules.specs.Job as rules
 use Rattle.rules.specs.Numbers.{PieceType, noType, grown, singlesFrom}
 use Rattle.rules.specs.Planner.{roomOf}
-use Rattle.rules.proofs.Bags.{all-at, mem-map, from-map, map-append}
+use Rattle.rules.proofs.Bags.{index, all-at, mem-map, from-map, map-append}
 use Rattle.rules.proofs.Bridge.{join, made-join}
 use Rattle.rules.proofs.Listing.{made-kept}
 use Rattle.rules.proofs.Outlines.{fits, fits-true, true-fits, sameOutline, same-eq, eq-same}
 use Rattle.rules.proofs.Unfold.{Rec, noRec, at, MadeBy}
-use Rattle.rules.proofs.Worklist.{index}
 use Rattle.shapes.specs.declared.Job.{Job}
 use Rattle.shapes.specs.Handed.{numbersOf, JobInRange}
 use Rattle.outline.specs.declared.Outline.{Outline}

@@ -18,13 +18,12 @@ use Rattle.rules.specs.Planner.{roomOf, slotsOf, Planned, none-fits, too-many, 
 use Rattle.rules.specs.Answers.{PlanLeft, PlanNumbers, outside, within}
 use Rattle.rules.proofs.Accept.{job-typed}
 use Rattle.rules.proofs.Arrange.{entryOf, flat, entries-flat, length-flat, lying-entries, plan-for}
-use Rattle.rules.proofs.Bags.{all-at, all-of, all-map, mem-map, from-map, same-map}
+use Rattle.rules.proofs.Bags.{index, all-at, all-of, all-map, mem-map, from-map, same-map}
 use Rattle.rules.proofs.Lay.{Laid}
 use Rattle.rules.proofs.Outlines.{fits, fits-true}
 use Rattle.rules.proofs.Ranges.{positive}
 use Rattle.rules.proofs.Tally.{pieces-counts}
 use Rattle.rules.proofs.Unfold.{Rec, noRec, at, MadeBy, Lays, lays-some, unfolded}
-use Rattle.rules.proofs.Worklist.{index}
 use Rattle.shapes.specs.declared.Job.{Job}
 use Rattle.shapes.specs.declared.PlanVerdict.{PlanVerdict}
 use Rattle.shapes.specs.declared.PlanVerdict.the-variants.{Done, NoPlan}

@@ -10,6 +10,11 @@ use lib.ListN.{length, getD, set, take, drop}
 use native.Mathlib.Decide.{decLe}
 use Rattle.rules.specs.Bag.{All, Same, Within, always, cons, count, keep, nil, other, prepend, tick}
 
+-- a place of an element of a list
+pub index : {A : Type 0} (d : A) {a : A} {l : List A} → List·Memᴰ a l → (i : ℕ) × (i < length l) × (getD l i d ≡ a)
+index d (List·Memᴰ·head e) = (0, omega arith, sym e)
+index d (List·Memᴰ·tail m) = let r = index d m in (suc (r .0), omega (arith, r .1), r .2)
+
 module _ {A : Type 0} where
   pub count-always : (l : List A) → count always l ≡ length l
   count-always [] = refl

@@ -16,11 +16,10 @@ use Rattle.rules.specs.Box.{Way, along, across}
 use Rattle.rules.specs.Made.{one, beside, above}
 use Rattle.rules.specs.Job.{Job, Outline, Fits, Build, building, AtMost, plus, pieces, types, alone}
 use Rattle.rules.proofs.Bools.{both-and}
-use Rattle.rules.proofs.Bags.{all-at, from-map}
+use Rattle.rules.proofs.Bags.{index, all-at, from-map}
 use Rattle.rules.proofs.Tally.{Typed, length-plus, sum-plus, sum-unit}
 use Rattle.rules.proofs.Bridge.{join, join-counts, made-join}
 use Rattle.rules.proofs.Outlines.{atMost, counts-length}
-use Rattle.rules.proofs.Worklist.{index}
 
 -- one piece more of type t, counted from 0
 abbrev pub oneMore : ℕ → List ℕ → List ℕ

@@ -8,7 +8,6 @@ pub mod Sides
 pub mod Sweep
 pub mod Listing
 pub mod Rounds
-pub mod Worklist
 pub mod Tally
 pub mod Bridge
 pub mod Order

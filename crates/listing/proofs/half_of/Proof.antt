@@ -2,8 +2,8 @@
 use Prim.Native.Nat.{_-_}
 use native.Mathlib.Omega.{arith}
 use mathlib.Core.Path.{sym, subst}
+use Rattle.classes.specs.Directory.{Turn}
 use Rattle.classes.proofs.Laws.{class-at, next-begins}
-use Rattle.listing.specs.Queue.{Turn}
 use borrow.Author.Needs.{needs}
 use Rattle.listing.proofs.half_of.Statement.{statement}
 use Rattle.listing.proofs.half_of.Tie as tie

@@ -4,9 +4,10 @@ use Prim.Native.Nat.{_-_}
 use native.Mathlib.Omega.{arith}
 use lib.ListN.{length}
 use Rattle.rules.specs.Planner.{roomOf}
+use Rattle.classes.specs.Directory.{Turn}
 use Rattle.classes.proofs.Laws.{class-at}
 use Rattle.outlines.proofs.Laws.{too-many-then}
-use Rattle.listing.specs.Queue.{Turn, Queued}
+use Rattle.listing.specs.Queue.{Queued}
 use Rattle.listing.proofs.Laws.{queue-source, queue-next, queue-end, turn-follows}
 use borrow.Author.Needs.{needs}
 use Rattle.listing.proofs.list_joins.Statement.{statement}

@@ -1,0 +1,2 @@
+-- What is promised of pairs of classes.
+pub mod Pairs

@@ -1,0 +1,2 @@
+-- Bounds of counts.
+pub mod Bounds

@@ -8,6 +8,27 @@
 //! `all_pairs` lists the same outlines by joining each record with all before it: the method that the other is there to outdo.
 use crate::peer::{Job, Piece, TYPES};
 
+/// What class by class tries, counted where this is built with `--cfg counted` (bench/run counts): nothing is counted where times are taken.
+#[cfg(counted)]
+pub mod counted {
+    use std::sync::atomic::AtomicU64;
+    /// Two records, to be joined in a way.
+    pub static TRIES: AtomicU64 = AtomicU64::new(0);
+    /// Those that fit.
+    pub static JOINS: AtomicU64 = AtomicU64::new(0);
+    /// Classes whose counts are within those of a class that grows, with at most half of its pieces.
+    pub static HALVES: AtomicU64 = AtomicU64::new(0);
+    /// Those that are not passed over by their sizes.
+    pub static HALVES_TRIED: AtomicU64 = AtomicU64::new(0);
+}
+
+macro_rules! count {
+    ($what:ident) => {
+        #[cfg(counted)]
+        counted::$what.fetch_add(1, std::sync::atomic::Ordering::Relaxed);
+    };
+}
+
 /// number, place, profit, length, width, pieces, N
 pub type Answer = [u64; 7];
 
@@ -208,12 +229,14 @@ impl Lister<'_> {
             for k in b..b_end {
                 let y = self.records[k].by[way];
                 let y_size = self.records[y as usize].size;
+                count!(TRIES);
                 if x_size[way] + y_size[way] > self.sides[way] {
                     if k == b {
                         return Ok(());
                     }
                     break;
                 }
+                count!(JOINS);
                 self.add(start, Record::new(counts, join(x_size, y_size, way), joined(way), [x, y]))?;
             }
         }
@@ -240,8 +263,10 @@ impl Lister<'_> {
             let class = &self.records[p];
             let (part, end) = (class.counts(), class.end as usize);
             if part.within(counts) {
+                count!(HALVES);
                 let can = [self.can(p, 0), self.can(p, 1)];
                 if can[0] || can[1] {
+                    count!(HALVES_TRIED);
                     if let Some(rest) = self.find(counts.less(part)) {
                         for way in 0..2 {
                             if can[way] {

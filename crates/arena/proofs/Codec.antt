@@ -1,18 +1,12 @@
 -- The laws of the codec: a record that is written is read back, field by field. Assumes nothing.
 use mathlib.Core.Path.{_≡_, refl, sym, ap, _∙_}
-use mathlib.Core.Bool.{true, false, _&&_}
 use mathlib.Core.List.{List, [], _∷_, _++_, append-nil}
-use Prim.Native.Nat.{ℕ, zero, suc, _+_, _*_, _-_, _/_, _%_, _≤_, _<_}
+use Prim.Native.Nat.{ℕ, suc, _+_, _*_, _-_, _/_, _%_, _<_}
 use native.Mathlib.Omega.{arith}
 use native.Mathlib.Numerals.{add-one}
-use lib.Dec.{eqb, leb}
 use lib.ListN.{length, getD, set, take, drop, replicate, length-set, length-take, length-drop, length-append, drop-of-length-le}
 use lib.Seq.{take-at, drop-at, getD-take, getD-append-add, take-set-lt}
-use borrow.Author.Tests.{eq-eqb, ne-eqb, le-leb}
 use Rattle.rules.specs.Limits.{typesMost, recordBytes}
-use Rattle.rules.specs.Job.{plus}
-use Rattle.rules.proofs.Bools.{and-false-left, and-false-right, both-and}
-use Rattle.rules.proofs.Outlines.{sameList, atMost}
 use Rattle.rules.proofs.Classes.{oneMore, more-set}
 use Rattle.outline.specs.declared.Way.the-variants.{Beside, Above}
 use Rattle.arena.specs.declared.How.{How}

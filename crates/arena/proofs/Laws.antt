@@ -12,9 +12,9 @@ use Rattle.rules.specs.Limits.{typesMost, recordBytes}
 use Rattle.rules.specs.Planner.{roomOf}
 use Rattle.outline.specs.Stands.{twoBytes}
 use Rattle.rules.proofs.Outlines.{atMost}
+use Rattle.rules.proofs.Places.{at-most-past}
 use Rattle.rules.proofs.Unfold.{noRec, at}
 use Rattle.tally.specs.Bounds.{byteMost, boundsMost, BoundsOf}
-use Rattle.tally.proofs.Laws.{at-most-past}
 use Rattle.arena.specs.declared.Record.{Record}
 use Rattle.arena.specs.Bytes.{word, putWord, howOf, lengthAt, widthAt, firstAt, secondAt, kindAt, encode, decode, chunk, putChunk}
 use Rattle.arena.specs.Records.{recordAt, sizeOf, recOf, recs, Storable, Stored, StoredAlone, linksMost, linksAt, linkPlace, linkAt, Linkable, Linked}

@@ -1,7 +1,7 @@
 -- The arena as a list of records: what a record stands for, and what reading and writing one does. Assumes nothing.
 use mathlib.Core.Path.{_≡_}
 use mathlib.Core.List.{List, [], _∷_, _++_}
-use Prim.Native.Nat.{ℕ, zero, suc, _+_, _*_, _≤_, _<_}
+use Prim.Native.Nat.{ℕ, zero, suc, _+_, _*_, _<_}
 use lib.ListN.{length}
 use Rattle.rules.specs.Limits.{recordBytes}
 use Rattle.rules.specs.Planner.{roomOf}

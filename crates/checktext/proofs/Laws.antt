@@ -2,17 +2,16 @@
 use mathlib.Core.Path.{_≡_, refl, sym, ap, ap₂, _∙_, subst}
 use mathlib.Core.Logic.{_≢_}
 use mathlib.Core.Option.{Option, none, some}
-use mathlib.Core.List.{List, [], _∷_, _++_}
-use Prim.Native.Nat.{ℕ, zero, suc, _*_, _≤_, _<_}
+use mathlib.Core.List.{List, _∷_, _++_}
+use Prim.Native.Nat.{ℕ, _≤_}
 use native.Mathlib.Omega.{arith}
 use native.Mathlib.Decide.{decLe}
 use lib.ListN.{length, take}
 use Rattle.rules.specs.Limits.{typesMost, piecesMost}
-use Rattle.rules.specs.Text.{planText}
 use Rattle.rules.specs.Items.{ranges, outOfRange, numbersFrom, placementsFrom}
 use Rattle.rules.specs.Numbers.{entries}
 use Rattle.rules.specs.Checker.{CheckAnswer, refused, Checked}
-use Rattle.rules.specs.Answers.{Ranged, outside, within, no-text, a-text, CheckNumbers, CheckText, CheckOwn}
+use Rattle.rules.specs.Answers.{outside, within, no-text, a-text, CheckNumbers, CheckText}
 use Rattle.rules.proofs.Ranges.{kept as in-ranges, this, those}
 use Rattle.shapes.specs.Answer.{numberOf, placeOf}
 use Rattle.shapes.specs.Handed.{itemsOf}
@@ -22,7 +21,7 @@ use Rattle.reading.specs.Placements.{numbersOfPlacements}
 use Rattle.texts.specs.declared.Told.the-variants.{Refused}
 use Rattle.texts.specs.declared.PlanText.{PlanText}
 use Rattle.texts.specs.Told.{toldNumber, toldPlace}
-use Rattle.texts.specs.Plan.{PlanTextLeft, planLeft, PlanOf, kept, short, PlanRead}
+use Rattle.texts.specs.Plan.{PlanTextLeft, planLeft, kept, short, PlanRead}
 use Rattle.texts.proofs.Refusals.{some-number}
 use Rattle.texts.proofs.Judged.{out-early, count-out}
 use Rattle.texts.proofs.Behind.{numbers-behind, placements-behind}

@@ -1,5 +1,5 @@
 -- What a caller knows of a job that is fine: its numbers are in range, and are those that its items hold. Assumes nothing.
-use mathlib.Core.Path.{_≡_, sym, subst}
+use mathlib.Core.Path.{_≡_, subst}
 use mathlib.Core.Option.{none}
 use mathlib.Core.List.{map}
 use Prim.Native.Nat.{_≤_}

@@ -9,7 +9,6 @@ use outline::Least;
 use outlines::Listed;
 use shapes::Job;
 use shapes::TYPES_MOST;
-ghost use mathlib.Core.Path.{_≡_};
 ghost use Prim.Native.Nat.{_<_, _≤_, suc};
 ghost use lib.ListN.{length, take};
 ghost use Rattle.rules.specs.Bag.{sum};

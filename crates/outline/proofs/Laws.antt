@@ -1,25 +1,22 @@
 -- Laws of counts, of a job's types, of its least sizes, and of one piece's counts. Assumes nothing.
 use mathlib.Core.Path.{_≡_, refl, sym, ap, _∙_, subst}
-use mathlib.Core.Bool.{true, false, true≢false}
 use mathlib.Core.Logic.{_⊎_, inl, inr}
 use mathlib.Core.List.{List, [], _∷_, map, List·Memᴰ, List·Memᴰ·not-nil, List·Memᴰ·cases-cons}
 use Prim.Native.Nat.{ℕ, zero, suc, _+_, _%_, _≤_, _<_, min}
 use native.Mathlib.Omega.{arith}
-use native.Mathlib.Decide.{ℕ-discrete, decLe}
-use lib.Dec.{eqb, leb}
+use native.Mathlib.Decide.{ℕ-discrete}
+use lib.Dec.{eqb}
 use lib.ListN.{length, getD, take, set, replicate, length-set, length-map, length-replicate, getD-replicate, List·getD-map}
 use lib.Seq.{ext-getD, getD-take, getD-set-same, getD-set-other, length-take-le}
 use borrow.Author.Count.{below-more}
-use borrow.Author.Tests.{le-leb, lt-leb, eq-eqb, ne-eqb}
+use borrow.Author.Tests.{eq-eqb, ne-eqb}
 use Rattle.rules.specs.Limits.{typesMost, demandMost}
 use Rattle.rules.specs.Bag.{tick, All, nil, cons}
 use Rattle.rules.specs.Box.{Way, along, across}
 use Rattle.rules.specs.Job as rules
 use Rattle.rules.specs.Job.{AtMost, Piece, plus, table, types, alone}
 use Rattle.rules.specs.Numbers.{PieceType, noType, grown, singlesFrom}
-use Rattle.rules.proofs.Bools.{and-false-left, and-false-right, both-and}
 use Rattle.rules.proofs.Tally.{length-table}
-use Rattle.rules.proofs.Outlines.{atMost}
 use Rattle.rules.proofs.Least.{Least, sizeBy}
 use Rattle.rules.proofs.Ranges.{TypeInRange}
 use Rattle.shapes.specs.declared.Job.{Job}
@@ -28,11 +25,6 @@ use Rattle.shapes.specs.Handed.{typeOf, numbersOf, JobInRange}
 use Rattle.outline.specs.declared.Least as code
 use Rattle.outline.specs.declared.Outline.{Outline}
 use Rattle.outline.specs.Stands.{jobFor, pieceAt, Few, sums, Alone, LeastAmong, LeastOf, leastBy, twoBytes}
-
--- a store at i, where what holds below i holds at i by the value stored
-pub grow : (r : List ℕ) (i v : ℕ) (f : ℕ → ℕ) → i < length r → ((k : ℕ) → k < i → getD r k 0 ≡ f k) → v ≡ f i → (k : ℕ) → k < i + 1 → getD (set r i v) k 0 ≡ f k
-grow r i v f l p e =
-    below-more (λ k. getD (set r i v) k 0 ≡ f k) i (λ k h. getD-set-other r i k v 0 (omega arith) ∙ p k h) (getD-set-same r i v 0 l ∙ e)
 
 -- counts added in bytes
 pub length-sums : (a b : List ℕ) → length a ≡ length b → length (sums a b) ≡ length a
@@ -57,27 +49,6 @@ pub at-most-few : (c ds : List ℕ) → AtMost c ds → All (λ x. x ≤ demandM
 at-most-few [] ds h a = nil
 at-most-few (c ∷ cs) [] h a = absurd h
 at-most-few (c ∷ cs) (d ∷ ds) h (cons p a) = cons {x = c} (omega (arith, h .0)) (at-most-few cs ds (h .1) a)
-
--- the test of counts, place by place
-pub at-most-here : (n : ℕ) (c ds : List ℕ) (i : ℕ) → i < n → i < length c → getD ds i 0 < getD c i 0 → atMost (take n c) ds ≡ false
-at-most-here zero c ds i h l p = absurd (omega arith)
-at-most-here (suc n) [] ds i h l p = absurd (omega arith)
-at-most-here (suc n) (c ∷ cs) [] i h l p = refl
-at-most-here (suc n) (c ∷ cs) (d ∷ ds) zero h l p = and-false-left (atMost (take n cs) ds) (lt-leb c d p)
-at-most-here (suc n) (c ∷ cs) (d ∷ ds) (suc i) h l p = and-false-right (leb c d) (at-most-here n cs ds i (omega arith) (omega arith) p)
-
-pub at-most-all : (n : ℕ) (c ds : List ℕ) → n ≤ length ds → ((i : ℕ) → i < n → getD c i 0 ≤ getD ds i 0) → atMost (take n c) ds ≡ true
-at-most-all zero c ds h p = refl
-at-most-all (suc n) [] ds h p = refl
-at-most-all (suc n) (c ∷ cs) [] h p = absurd (omega arith)
-at-most-all (suc n) (c ∷ cs) (d ∷ ds) h p = both-and (le-leb c d (p 0 (omega arith))) (at-most-all n cs ds (omega arith) (λ i k. p (suc i) (omega arith)))
-
-pub at-most-at : (n : ℕ) (c ds : List ℕ) (i : ℕ) → i < n → i < length c → atMost (take n c) ds ≡ true → getD c i 0 ≤ getD ds i 0
-at-most-at n c ds i h l e = go (decLe (getD c i 0) (getD ds i 0))
-  where
-    go : Dec (getD c i 0 ≤ getD ds i 0) → getD c i 0 ≤ getD ds i 0
-    go (yes p) = p
-    go (no p) = absurd (true≢false (sym e ∙ at-most-here n c ds i h l (omega arith)))
 
 pub getD-table : (n : ℕ) (f : ℕ → ℕ) (i : ℕ) → i < n → getD (table n f) i 0 ≡ f (suc i)
 getD-table zero f i h = absurd (omega arith)

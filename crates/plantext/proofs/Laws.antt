@@ -10,7 +10,7 @@ use Rattle.shapes.specs.Handed.{itemsOf}
 use Rattle.shapes.specs.declared.Refusal.{Refusal}
 use Rattle.texts.specs.declared.Told.the-variants.{Fine, Refused}
 use Rattle.texts.specs.declared.JobText.{JobText}
-use Rattle.texts.specs.Told.{toldNumber, toldPlace, JobAnswer, jobAnswer, JobOf, JobRead}
+use Rattle.texts.specs.Told.{toldNumber, toldPlace, JobAnswer, jobAnswer, JobRead}
 use Rattle.texts.proofs.Refusals.{some-number}
 use Rattle.rules.specs.Answers as answers
 

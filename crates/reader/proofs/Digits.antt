@@ -1,11 +1,11 @@
 -- One byte of a number, over plain variables. Assumes nothing.
-use mathlib.Core.Path.{_≡_, refl, sym, ap, _∙_}
-use mathlib.Core.Bool.{Bool, true, false, _&&_, _||_, true≢false}
+use mathlib.Core.Path.{_≡_, refl}
+use mathlib.Core.Bool.{Bool, true, false, _&&_, _||_}
 use mathlib.Core.List.{List}
-use Prim.Native.Nat.{ℕ, suc, _+_, _*_, _-_, _^_, _≤_, _<_}
+use Prim.Native.Nat.{ℕ, _+_, _*_, _-_, _^_, _≤_, _<_}
 use native.Mathlib.Omega.{arith}
 use native.Mathlib.Numerals.{add-one}
-use native.Mathlib.Nat.{pow-le-pow-right, mul-comm, add-comm}
+use native.Mathlib.Nat.{pow-le-pow-right, mul-comm}
 use lib.ListN.{length, drop, getD, drop-of-length-le}
 use lib.Seq.{drop-cons}
 use lib.Dec.{eqb, leb, ltb}
@@ -14,7 +14,6 @@ use Rattle.rules.specs.Limits.{digitsMost}
 use Rattle.rules.proofs.Reading.{isDigit, room}
 use Rattle.rules.proofs.Bools.{and-both, both-and}
 use Rattle.reader.specs.Number.{numberFrom}
-use Rattle.reader.specs.declared.Numeral.{Numeral}
 use Rattle.reader.specs.declared.Numeral.the-variants.{Is, IsNot}
 
 module _ (e : ℕ) (s : List ℕ) (i n v : ℕ) where

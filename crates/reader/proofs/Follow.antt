@@ -1,15 +1,14 @@
 -- Reading a script is reading a number and then what follows it: how the reader is put together from `number`. Assumes nothing.
-use mathlib.Core.Path.{_≡_, refl, sym, ap, _∙_, subst}
-use mathlib.Core.Bool.{Bool, true, false, _&&_, _||_}
-use mathlib.Core.List.{List, [], _∷_, head-eq-of-cons-eq, tail-eq-of-cons-eq, cons≢nil}
-use Prim.Native.Nat.{ℕ, zero, suc, _+_, _*_, _-_, _≤_, _<_}
-use native.Mathlib.Omega.{arith}
-use lib.ListN.{length, drop, getD}
+use mathlib.Core.Path.{_≡_, refl, ap, _∙_}
+use mathlib.Core.Bool.{Bool, true, false, _&&_}
+use mathlib.Core.List.{List, [], _∷_}
+use Prim.Native.Nat.{ℕ, suc, _+_, _*_, _-_}
+use lib.ListN.{drop}
 use lib.Seq.{drop-drop}
 use lib.Dec.{eqb, ltb}
 use native.Mathlib.Numerals.{add-one}
 use Rattle.rules.specs.Text.{Script, num, End, byte}
-use Rattle.rules.proofs.Reading.{Read, ok, stop, read, noted, isDigit, room}
+use Rattle.rules.proofs.Reading.{Read, stop, read, noted, isDigit, room}
 use Rattle.reader.specs.Number.{numberFrom, numberAt}
 use Rattle.reader.specs.declared.Numeral.{Numeral}
 use Rattle.reader.specs.declared.Numeral.the-variants.{Is, IsNot}

@@ -1,5 +1,5 @@
 -- The number at a place of a text, byte by byte; proofs/Follow shows that the grammar's reading is made of it. Assumes nothing.
-use mathlib.Core.Bool.{Bool, true, false, _&&_}
+use mathlib.Core.Bool.{true, false, _&&_}
 use mathlib.Core.List.{List, [], _∷_}
 use Prim.Native.Nat.{ℕ, suc, _+_, _*_, _-_}
 use lib.ListN.{drop}

@@ -1,14 +1,14 @@
 -- Placement lines read one after the other into flat numbers. Assumes nothing.
 use mathlib.Core.Path.{_≡_, refl, sym, ap, _∙_, subst}
 use mathlib.Core.List.{List, [], _∷_, _++_, append-assoc}
-use Prim.Native.Nat.{ℕ, suc, _+_, _*_, _-_, _≤_, _<_}
+use Prim.Native.Nat.{ℕ, _+_, _-_, _≤_, _<_}
 use native.Mathlib.Omega.{arith}
 use native.Mathlib.Numerals.{add-one}
 use lib.ListN.{length, take, drop, set, getD, length-set}
 use lib.Seq.{take-suc-set, drop-set-lt, drop-drop}
 use Rattle.rules.specs.Text.{Script, aLine, someLines}
 use Rattle.rules.proofs.Reading.{read, stop}
-use Rattle.reading.specs.Walked.{Walking, Walked, arrives, leaves}
+use Rattle.reading.specs.Walked.{Walking, arrives, leaves}
 use Rattle.reading.specs.declared.Walk.{Walk}
 use Rattle.reading.specs.declared.Walk.the-variants.{To, Stops}
 use Rattle.reading.specs.Placements.{numbersOfPlacements, noNumbers, PlacementsRead, InPlacements, PlacementsPart, inside, outside, broken}

@@ -6,7 +6,7 @@ use native.Mathlib.Omega.{arith}
 use native.Mathlib.Numerals.{add-one}
 use lib.ListN.{length, take, drop, set, length-set}
 use lib.Seq.{take-suc-set}
-use Rattle.rules.specs.Text.{space, line, byte, Script, num, aLine, someLines, section}
+use Rattle.rules.specs.Text.{space, line, Script, num, aLine, someLines, section}
 use Rattle.rules.proofs.Reading.{read, stop}
 use Rattle.reader.specs.Number.{numberAt}
 use Rattle.reader.specs.declared.Numeral.the-variants.{Is, IsNot}

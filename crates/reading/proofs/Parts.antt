@@ -13,11 +13,11 @@ use Rattle.reader.specs.Number.{numberAt}
 use Rattle.reader.specs.declared.Numeral.the-variants.{Is, IsNot}
 use Rattle.reading.specs.declared.Sheet.{Sheet}
 use Rattle.reading.specs.declared.Walk.{Walk}
-use Rattle.reading.specs.declared.Walk.the-variants.{To, Stops}
+use Rattle.reading.specs.declared.Walk.the-variants.{Stops}
 use Rattle.reading.specs.Walked.{Walking, Walked, arrives, leaves, Passed}
 use Rattle.shapes.specs.declared.PieceType.{PieceType}
 use Rattle.reading.specs.Pieces.{numbersOfTypes, PiecesRead}
-use Rattle.reading.specs.Sections.{sheetItems, countItems, someSheets, oneSheet, sheetsAndPieces, Holds, all, too-many, not-one, Part, whole, broken}
+use Rattle.reading.specs.Sections.{sheetItems, countItems, someSheets, oneSheet, Holds, all, too-many, not-one, Part, whole, broken}
 use Rattle.reading.proofs.Walks.{walk-start, walk-is, walk-is-not, walk-on, walk-stops}
 
 -- whatever stopped the reading, the sections are broken there

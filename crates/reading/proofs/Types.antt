@@ -14,7 +14,7 @@ use Rattle.rules.proofs.Reading.{read, stop}
 use Rattle.rules.proofs.Bags.{map-append}
 use Rattle.shapes.specs.Handed.{typeOf}
 use Rattle.shapes.specs.declared.PieceType.{PieceType}
-use Rattle.reading.specs.Walked.{Walking, Walked, arrives, leaves}
+use Rattle.reading.specs.Walked.{Walking, arrives, leaves}
 use Rattle.reading.specs.declared.Walk.the-variants.{To, Stops}
 use Rattle.reading.specs.Pieces.{noTypes, numbersOfTypes, PiecesRead, InPieces}
 use Rattle.reading.proofs.Walks.{walk-start, walk-on, walk-stops, walk-same}

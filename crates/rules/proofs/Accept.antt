@@ -1,24 +1,24 @@
 -- The checker accepts a list exactly if its pieces keep to sheet and demands and can be parted: tests 6 to 9 find nothing, and the other way round. Assumes nothing.
 use mathlib.Core.Path.{_≡_, refl, sym, ap, _∙_, subst}
-use mathlib.Core.Bool.{Bool, true, false, not, _&&_, true≢false}
+use mathlib.Core.Bool.{Bool, true, false, not}
 use mathlib.Core.Logic.{_↔_}
 use mathlib.Core.Option.{Option, none, some}
-use mathlib.Core.List.{List, [], _∷_, map, List·Memᴰ, List·Memᴰ·head, List·Memᴰ·tail}
+use mathlib.Core.List.{List, [], _∷_, List·Memᴰ, List·Memᴰ·head, List·Memᴰ·tail}
 use Prim.Native.Nat.{ℕ, zero, suc, _+_, _≤_, _<_}
 use native.Mathlib.Omega.{arith}
 use lib.ListN.{length, getD, length-map, List·getD-map}
 use lib.Dec.{eqb, leb, ltb}
 use borrow.Author.Tests.{leb-true, leb-false, le-leb, lt-leb, ltb-false, le-ltb, eqb-true, eqb-false, eq-eqb, ne-eqb}
 use Rattle.rules.specs.Bag.{tick, count, All, nil, cons}
-use Rattle.rules.specs.Box.{along, across, far, Apart, Disjoint, empty, more, overlap}
+use Rattle.rules.specs.Box.{along, across, far, Apart, Disjoint, more, overlap}
 use Rattle.rules.specs.Parted.{CanBeParted}
-use Rattle.rules.specs.Job.{Piece, AtMost, table, types}
-use Rattle.rules.specs.Placed.{Placed, boxes, Of, OnSheet, countsOf, ofType, Accepted}
+use Rattle.rules.specs.Job.{AtMost, table, types}
+use Rattle.rules.specs.Placed.{boxes, Of, OnSheet, countsOf, ofType, Accepted}
 use Rattle.rules.specs.Numbers.{Numbers, PieceType, noType, grown, singlesFrom, jobOf, Entry, placed, lying}
 use Rattle.rules.specs.Checker.{CheckAnswer, notAType, offSheet, aboveDemand, overlaps, firstPlace, tests, Found, nothing, found, orElse, firstRefusal, Checked, refusal, not-parted, accepted}
 use Rattle.rules.proofs.Bools.{and-both, both-and, or-false, both-false, not-false}
-use Rattle.rules.proofs.Bags.{all-at, all-map, all-zip, all-head, all-tail, all-image, image-all, count-map}
-use Rattle.rules.proofs.Boxes.{apart-sym, apart-of, of-apart}
+use Rattle.rules.proofs.Bags.{all-at, all-map, all-zip, all-image, image-all, count-map}
+use Rattle.rules.proofs.Boxes.{apart-sym, of-apart}
 use Rattle.rules.proofs.Sides.{parted-apart}
 use Rattle.rules.proofs.Tally.{Typed}
 

@@ -4,17 +4,16 @@ use mathlib.Core.Path.{_≡_, refl, sym, ap, _∙_, subst}
 use mathlib.Core.Logic.{_⊎_, inl, inr, _≢_}
 use mathlib.Core.Option.{Option, none, some}
 use mathlib.Core.List.{List, [], _∷_}
-use Prim.Native.Nat.{ℕ, zero, suc, _+_, _*_, _≤_, _<_}
+use Prim.Native.Nat.{ℕ, zero, suc, _*_, _≤_}
 use native.Mathlib.Omega.{arith}
 use native.Mathlib.Decide.{decLe, ℕ-discrete}
 use lib.ListN.{length, drop, length-drop}
 use Rattle.rules.specs.Limits.{typesMost, inputMost}
-use Rattle.rules.specs.Text.{Script, end, num, Text, LeavesAt, jobText, section, someLines, aLine}
+use Rattle.rules.specs.Text.{Script, end, Text, LeavesAt, jobText, section, someLines, aLine}
 use Rattle.rules.specs.Items.{outOfRange, numbersFrom, placementsFrom, ranges, pieceCount, handedOver}
-use Rattle.rules.specs.Numbers.{Numbers, PieceType, jobOf, entries}
-use Rattle.rules.specs.Job.{Outline, Best}
-use Rattle.rules.specs.Checker.{CheckAnswer, refused, Checked}
-use Rattle.rules.specs.Planner.{PlanAnswer, noPlan, planOf, roomOf, slotsOf, Planned, none-fits, too-many, no-slots, done, numbersFor, Written, BufferLeft, arenaAfter}
+use Rattle.rules.specs.Numbers.{PieceType, jobOf, entries}
+use Rattle.rules.specs.Checker.{CheckAnswer, refused}
+use Rattle.rules.specs.Planner.{PlanAnswer, noPlan, planOf, roomOf, slotsOf, Planned, none-fits, too-many, no-slots, done, numbersFor, arenaAfter}
 use Rattle.rules.specs.Answers.{Ranged, outside, within, Read, no-text, a-text, Given, too-long, a-length, PlanLeft, refusedPlan, PlanItems, PlanNumbers, PlanText, PlanInput, CheckItems, CheckNumbers, CheckText, CheckInput}
 use Rattle.rules.proofs.Reading.{reads, leaves-once, text-once}
 use Rattle.rules.proofs.Writing.{Asked, one, text-asked}

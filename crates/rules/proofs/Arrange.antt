@@ -5,13 +5,13 @@ use mathlib.Core.Logic.{_⊎_, inl, inr}
 use mathlib.Core.List.{List, [], _∷_, _++_, map, List·Memᴰ, List·Memᴰ·cases-cons, List·Memᴰ·not-nil}
 use Prim.Native.Nat.{ℕ, suc, _+_, _*_, _≤_, _<_}
 use native.Mathlib.Omega.{arith}
-use native.Mathlib.Decide.{decLt, decLe, ℕ-discrete}
-use lib.ListN.{length, getD, take, drop, length-append, length-map, length-drop}
+use native.Mathlib.Decide.{decLt, decLe}
+use lib.ListN.{length, getD, drop, length-append, length-map, length-drop}
 use lib.Seq.{take-at, drop-at}
 use Rattle.rules.specs.Limits.{placementNumbers}
 use Rattle.rules.specs.Bag.{tick, sum, count, All, nil, cons, Same}
 use Rattle.rules.specs.Job.{Piece, Outline, Build, pieces}
-use Rattle.rules.specs.Placed.{Placed, put, Of, InOutline, countsOf, ofType, Accepted}
+use Rattle.rules.specs.Placed.{Placed, put, Of, ofType}
 use Rattle.rules.specs.Numbers.{Numbers, PieceType, noType, grown, singlesFrom, jobOf, Entry, entries, placed, lying}
 use Rattle.rules.specs.Planner.{NotBehind, InOrder, none, last, next, PlanFor, numbersFor, Written}
 use Rattle.rules.proofs.Bags.{all-at, all-map, same-map}

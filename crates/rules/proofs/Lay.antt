@@ -1,12 +1,12 @@
 -- A build laid out from a corner: in its outline, with its counts, and it can be parted. Assumes nothing.
-use mathlib.Core.Path.{_≡_, refl, sym, ap, ap₂, _∙_, subst}
+use mathlib.Core.Path.{_≡_, refl, sym, ap₂, _∙_, subst}
 use mathlib.Core.List.{List, [], _∷_, _++_, List·Memᴰ}
 use Prim.Native.Nat.{ℕ, _+_, _≤_, _<_}
 use native.Mathlib.Nat.{le-trans}
 use native.Mathlib.Omega.{arith}
 use lib.ListN.{length, length-append, length-map}
 use Rattle.rules.specs.Bag.{All, nil, cons}
-use Rattle.rules.specs.Box.{Box, Way, along, across, near, far}
+use Rattle.rules.specs.Box.{Way, along, across, near, far}
 use Rattle.rules.specs.Parted.{CanBeParted, few}
 use Rattle.rules.specs.Made.{one, beside, above}
 use Rattle.rules.specs.Job.{Job, Piece, Outline, Build, AtMost, plus, alone}

@@ -13,6 +13,7 @@ pub mod Bridge
 pub mod Order
 pub mod Lay
 pub mod Outlines
+pub mod Places
 pub mod Classes
 pub mod Least
 pub mod Halves

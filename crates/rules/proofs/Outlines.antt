@@ -2,14 +2,14 @@
 use mathlib.Core.Path.{_≡_, refl, sym, ap, _∙_}
 use mathlib.Core.Bool.{Bool, true, false, _&&_, true≢false}
 use mathlib.Core.List.{List, [], _∷_, map, List·Memᴰ}
-use Prim.Native.Nat.{ℕ, _≤_, _<_}
+use Prim.Native.Nat.{ℕ}
 use native.Mathlib.Omega.{arith}
 use lib.ListN.{length}
 use lib.Dec.{eqb, leb}
 use borrow.Author.Tests.{leb-true, le-leb, eqb-true, eq-eqb}
 use Rattle.rules.specs.Bag.{sum, All}
 use Rattle.rules.specs.Made.{one, beside, above}
-use Rattle.rules.specs.Job.{Job, Outline, Fits, Build, AllOutlines, AtMost, plus, types, alone, horizontal, vertical}
+use Rattle.rules.specs.Job.{Job, Outline, Fits, Build, AllOutlines, AtMost, types, alone, horizontal, vertical}
 use Rattle.rules.proofs.Bools.{and-both, both-and}
 use Rattle.rules.proofs.Bags.{all-at, from-map}
 use Rattle.rules.proofs.Rounds.{held, held-mem, rounds, rounds-enumerate}

@@ -2,14 +2,14 @@
 use mathlib.Core.Path.{_≡_, refl, sym, ap, _∙_, subst}
 use mathlib.Core.Bool.{Bool, true, false, true≢false}
 use mathlib.Core.Logic.{_⊎_, inl, inr}
-use mathlib.Core.List.{List, [], _∷_, map, List·Memᴰ, List·Memᴰ·head, List·Memᴰ·tail}
+use mathlib.Core.List.{List, [], _∷_, List·Memᴰ, List·Memᴰ·head, List·Memᴰ·tail}
 use Prim.Native.Nat.{ℕ, _≤_, _<_}
 use native.Mathlib.Omega.{arith}
 use native.Mathlib.Decide.{decLe}
 use lib.ListN.{length}
 use Rattle.rules.specs.Bag.{All, nil, cons}
 use Rattle.rules.specs.Made.{one, beside, above, MoreThan}
-use Rattle.rules.specs.Job.{Job, Piece, Outline, Fits, Build, AllOutlines, Best, profit, pieces, alone}
+use Rattle.rules.specs.Job.{Job, Piece, Outline, Fits, Build, AllOutlines, Best, pieces, alone}
 use Rattle.rules.specs.Planner.{PlanAnswer, planOf, FitsAlone, Planned, none-fits, too-many, no-slots, done}
 use Rattle.rules.proofs.Bags.{all-at, from-map, mem-map}
 use Rattle.rules.proofs.Listing.{same-number, more-iff}

@@ -1,9 +1,9 @@
 -- Demand 3, as one theorem: what the planner writes is accepted and earns what it says, and no accepted list for the job earns more. Assumes nothing.
 use mathlib.Core.Path.{_≡_, refl, sym, ap, _∙_, subst}
 use mathlib.Core.List.{List}
-use Prim.Native.Nat.{ℕ, _*_, _≤_}
+use Prim.Native.Nat.{ℕ, _*_}
 use native.Mathlib.Omega.{arith}
-use lib.ListN.{length, take}
+use lib.ListN.{take}
 use Rattle.rules.specs.Job.{Outline, Best, profit, pieces, dot}
 use Rattle.rules.specs.Placed.{Accepted, worth}
 use Rattle.rules.specs.Numbers.{Numbers, jobOf, Entry, entries, lying}

@@ -1,16 +1,15 @@
 -- Items in range: what is known of the job they hold. Assumes nothing.
-use mathlib.Core.Path.{_≡_, refl, sym, ap, _∙_, subst}
+use mathlib.Core.Path.{_≡_, refl, ap}
 use mathlib.Core.Bool.{Bool, true, false, _&&_}
 use mathlib.Core.Option.{Option, none, some}
-use mathlib.Core.List.{List, [], _∷_, _++_}
-use Prim.Native.Nat.{ℕ, zero, suc, _+_, _*_, _≤_, _<_}
+use mathlib.Core.List.{List, [], _∷_}
+use Prim.Native.Nat.{ℕ, zero, suc, _+_, _*_, _≤_}
 use native.Mathlib.Omega.{arith}
-use lib.ListN.{length, getD, take, drop, length-append}
+use lib.ListN.{length, take, drop}
 use lib.Dec.{leb}
 use borrow.Author.Tests.{leb-true}
 use Rattle.rules.specs.Limits.{sizeMost, kerfMost, typesMost, profitMost, demandMost, piecesMost}
 use Rattle.rules.specs.Bag.{All, nil, cons}
-use Rattle.rules.specs.Job.{Piece}
 use Rattle.rules.specs.Numbers.{Numbers, PieceType, grown, singlesFrom, jobOf}
 use Rattle.rules.specs.Items.{Range, from, pieceRanges, ranges, firstOut, pieceCount, outOfRange, typesFrom, numbersFrom, typeItems, handedOver}
 use Rattle.rules.proofs.Bools.{and-both}

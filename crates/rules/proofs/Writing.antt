@@ -1,5 +1,5 @@
 -- Numbers in decimal: each has its digits, and one way to write them; what is written is read back. Assumes nothing.
-use mathlib.Core.Path.{_≡_, refl, sym, ap, _∙_, subst}
+use mathlib.Core.Path.{_≡_, refl, sym, subst}
 use mathlib.Core.Bool.{Bool, true, false}
 use mathlib.Core.List.{List, [], _∷_, _++_}
 use Prim.Native.Nat.{ℕ, zero, suc, _+_, _*_, _/_, _%_, _^_, _≤_, _<_}
@@ -10,7 +10,7 @@ use lib.ListN.{length, length-append}
 use lib.Dec.{ltb}
 use borrow.Author.Tests.{ltb-true, ltb-false}
 use Rattle.rules.specs.Limits.{digitsMost}
-use Rattle.rules.specs.Bag.{All, nil, cons}
+use Rattle.rules.specs.Bag.{All, cons}
 use Rattle.rules.specs.Decimal.{Decimal, digit, more}
 use Rattle.rules.specs.Text.{End, byte, Script, end, num, Text, done, after}
 use Rattle.rules.specs.Printed.{Spelled}

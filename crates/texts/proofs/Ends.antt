@@ -1,12 +1,11 @@
 -- Where a reading of whole sections leaves a text: in the grammar, or at the place that refusal 1 names. Assumes nothing.
-use mathlib.Core.Path.{_≡_, refl, sym, ap, _∙_}
+use mathlib.Core.Path.{_≡_, refl, ap, _∙_}
 use mathlib.Core.List.{List, [], _∷_}
 use Prim.Native.Nat.{ℕ, _≤_, _<_}
-use native.Mathlib.Omega.{arith}
-use lib.ListN.{length, drop, getD, drop-of-length-le}
+use lib.ListN.{length, drop, drop-of-length-le}
 use lib.Seq.{drop-cons}
 use Rattle.rules.specs.Text.{Script, end, Text, LeavesAt}
-use Rattle.rules.proofs.Reading.{Read, ok, stop, read, noted, fresh, sound, leaves}
+use Rattle.rules.proofs.Reading.{ok, stop, read, noted, fresh, sound, leaves}
 use Rattle.reading.specs.Walked.{notedAll, Walking}
 
 noted-ok : (vs : List ℕ) → notedAll vs (ok []) ≡ ok vs

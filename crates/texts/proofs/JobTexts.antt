@@ -10,7 +10,7 @@ use Rattle.rules.specs.Items.{outOfRange}
 use Rattle.rules.specs.Answers.{no-text, a-text, outside, within}
 use Rattle.rules.proofs.Reading.{read, stop}
 use Rattle.shapes.specs.declared.Job.{Job}
-use Rattle.shapes.specs.declared.Refusal.the-variants.{NotInGrammar, OutOfRange}
+use Rattle.shapes.specs.declared.Refusal.the-variants.{NotInGrammar}
 use Rattle.reading.specs.declared.Walk.{Walk}
 use Rattle.reading.specs.declared.Walk.the-variants.{To, Stops}
 use Rattle.reading.specs.Walked.{Walking}

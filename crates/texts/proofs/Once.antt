@@ -1,10 +1,9 @@
 -- There is one answer to a text, and every byte and number that a reader leaves is determined by it. Assumes nothing.
-use mathlib.Core.Path.{_≡_, refl, sym, ap, _∙_, subst}
+use mathlib.Core.Path.{_≡_, refl, sym, ap, _∙_}
 use mathlib.Core.List.{List, [], _∷_, _++_, map, head-eq-of-cons-eq, tail-eq-of-cons-eq}
-use Prim.Native.Nat.{ℕ, zero, suc, _+_, _*_, _≤_, _<_}
+use Prim.Native.Nat.{ℕ, zero, suc, _+_}
 use native.Mathlib.Omega.{arith}
 use lib.ListN.{length, take, drop, take-append-drop}
-use lib.Seq.{length-take-le}
 use Rattle.rules.specs.Items.{typeItems}
 use Rattle.rules.proofs.Answers.{read-once}
 use Rattle.shapes.specs.Handed.{typeOf, itemsOf}
@@ -13,7 +12,7 @@ use Rattle.shapes.specs.declared.Job.{Job}
 use Rattle.reading.specs.Pieces.{noTypes}
 use Rattle.reading.specs.Placements.{numbersOfPlacements}
 use Rattle.texts.specs.Told.{JobAnswer, JobOf, JobRead}
-use Rattle.texts.specs.Plan.{PlanTextLeft, noPlanAt, PlanOf, kept, short, PlanRead}
+use Rattle.texts.specs.Plan.{PlanTextLeft, PlanOf, kept, short, PlanRead}
 
 -- types that have the same items are the same
 same-types : (n : ℕ) (ts us : List PieceType) → length ts ≡ length us → typeItems (take n (map typeOf ts)) ≡ typeItems (take n (map typeOf us)) → take n ts ≡ take n us

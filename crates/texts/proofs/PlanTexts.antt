@@ -1,13 +1,12 @@
 -- The answer to a plan text, from the walks over its sections. Assumes nothing.
 use mathlib.Core.Path.{_≡_, refl, sym, ap, _∙_, subst}
-use mathlib.Core.Option.{none}
 use mathlib.Core.List.{List, [], _∷_, _++_}
-use Prim.Native.Nat.{ℕ, _≤_, _<_}
+use Prim.Native.Nat.{ℕ, _≤_}
 use native.Mathlib.Omega.{arith}
-use lib.ListN.{length, take, drop, length-take, length-drop, length-append}
+use lib.ListN.{length, take, drop, length-drop, length-append}
 use lib.Seq.{take-at, drop-at, length-take-le}
 use Rattle.rules.specs.Limits.{piecesMost}
-use Rattle.rules.specs.Text.{Script, end, section, Text, planText}
+use Rattle.rules.specs.Text.{Script, section, Text, planText}
 use Rattle.rules.specs.Items.{outOfRange}
 use Rattle.rules.specs.Answers.{no-text, a-text, outside, within}
 use Rattle.rules.proofs.Reading.{read, stop}
@@ -17,13 +16,12 @@ use Rattle.shapes.specs.declared.Refusal.the-variants.{NotInGrammar, OutOfRange
 use Rattle.reading.specs.declared.Walk.{Walk}
 use Rattle.reading.specs.declared.Walk.the-variants.{To, Stops}
 use Rattle.reading.specs.Walked.{Walking}
-use Rattle.reading.specs.Sections.{sheetsAndPieces, Holds, Part}
+use Rattle.reading.specs.Sections.{sheetsAndPieces, Part}
 use Rattle.reading.specs.Placements as placements
-use Rattle.reading.specs.Placements.{numbersOfPlacements, noNumbers, PlacementsPart}
+use Rattle.reading.specs.Placements.{numbersOfPlacements, PlacementsPart}
 use Rattle.reading.proofs.Walks.{walk-on, walk-stops}
 use Rattle.texts.specs.declared.PlanText.{PlanText}
-use Rattle.texts.specs.Told.{judged}
-use Rattle.texts.specs.Plan.{planLeft, PlanOf, kept, short, PlanRead, refusedPlan, PlanKept, many, no-room, copied, PlanTold, out, fine, PlanBehind, stops, follows, told}
+use Rattle.texts.specs.Plan.{planLeft, kept, short, PlanRead, refusedPlan, PlanKept, many, no-room, copied, PlanTold, out, fine, PlanBehind, stops, follows, told}
 use Rattle.texts.proofs.Ends.{leaves-within, leaves-behind, is-text}
 use Rattle.texts.proofs.Judged.{Items, judged-out, judged-fine, count-fine, count-out}
 use Rattle.texts.proofs.JobTexts.{Ended, part-broken, part-whole}

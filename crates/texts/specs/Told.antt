@@ -1,13 +1,12 @@
 -- What the readers of texts answer, and leave in the lent buffer. Assumes nothing.
 use mathlib.Core.Path.{_≡_}
-use mathlib.Core.Bool.{Bool, true, false}
 use mathlib.Core.Option.{Option, none, some}
-use mathlib.Core.List.{List, [], _∷_, _++_}
-use Prim.Native.Nat.{ℕ, _≤_, _<_}
-use lib.ListN.{length, take, drop}
+use mathlib.Core.List.{List}
+use Prim.Native.Nat.{ℕ}
+use lib.ListN.{length, drop}
 use lib.Dec.{eqb}
 use Rattle.rules.specs.Limits.{typesMost}
-use Rattle.rules.specs.Text.{jobText, planText}
+use Rattle.rules.specs.Text.{jobText}
 use Rattle.rules.specs.Items.{outOfRange}
 use Rattle.rules.specs.Planner.{pick}
 use Rattle.rules.specs.Answers.{Read}

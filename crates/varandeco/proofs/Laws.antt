@@ -6,7 +6,7 @@ use native.Mathlib.Omega.{arith}
 use native.Mathlib.Numerals.{add-one}
 use native.Mathlib.Decide.{decLe}
 use lib.ListN.{length, take, drop, set, getD, length-set, drop-of-length-le}
-use lib.Seq.{take-suc-set, drop-drop, getD-drop, paste, paste-zero, paste-suc, length-paste, take-all}
+use lib.Seq.{take-suc-set, getD-drop, paste, paste-zero, paste-suc, take-all}
 use Rattle.rules.specs.Limits.{typesMost}
 use Rattle.rules.specs.Numbers as rules
 use Rattle.rules.specs.Items.{typesFrom}

@@ -1,5 +1,5 @@
 -- `jobs::types_out` meets its contract: the lines passed are fine, so what is left of the search is that of the lines behind them. Assumes nothing.
-use mathlib.Core.Path.{sym, ap, _∙_}
+use mathlib.Core.Path.{sym, ap}
 use mathlib.Core.List.{map}
 use Prim.Native.Nat.{_-_, _<_}
 use lib.ListN.{length}

@@ -4,7 +4,8 @@ use native.Mathlib.Omega.{arith}
 use mathlib.Core.Path.{_≡_, sym, _∙_}
 use lib.ListN.{length, getD, length-set}
 use lib.Seq.{ext-getD}
-use Rattle.outline.proofs.Laws.{grow, length-sums, getD-sums}
+use Rattle.rules.proofs.Places.{grow}
+use Rattle.outline.proofs.Laws.{length-sums, getD-sums}
 use borrow.Author.Needs.{needs}
 use Rattle.outline.proofs.added.Statement.{statement}
 use Rattle.outline.proofs.added.Tie as tie

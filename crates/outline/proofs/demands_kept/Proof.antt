@@ -5,7 +5,8 @@ use mathlib.Core.Path.{sym}
 use lib.ListN.{getD}
 use borrow.Author.Count.{below-more}
 use Rattle.outline.specs.Stands.{jobFor}
-use Rattle.outline.proofs.Laws.{at-most-here, at-most-all, types-count, demand-at}
+use Rattle.rules.proofs.Places.{at-most-here, at-most-all}
+use Rattle.outline.proofs.Laws.{types-count, demand-at}
 use borrow.Author.Needs.{needs}
 use Rattle.outline.proofs.demands_kept.Statement.{statement}
 use Rattle.outline.proofs.demands_kept.Tie as tie

@@ -1,6 +1,5 @@
 -- `reader::may_follow` meets its contract: each test that was passed rewrites the definition. Assumes nothing.
 use native.Mathlib.Omega.{arith}
-use borrow.Author.Needs.{needs}
 use borrow.Author.Tests.{le-ltb, lt-ltb, le-leb, lt-leb, eq-eqb, ne-eqb}
 use Rattle.reader.proofs.may_follow.Statement.{statement}
 use Rattle.reader.proofs.may_follow.Tie as tie

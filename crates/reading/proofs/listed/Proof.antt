@@ -1,5 +1,5 @@
 -- `reading::listed` meets its contract: the lines are read into the numbers, or the reading stops. Assumes nothing.
-use mathlib.Core.Path.{refl, _∙_}
+use mathlib.Core.Path.{refl}
 use Rattle.reading.specs.Placements.{inside}
 use Rattle.reading.proofs.Walks.{arrived, left}
 use Rattle.reading.proofs.Flat.{placements-stop}

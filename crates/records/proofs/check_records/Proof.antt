@@ -1,6 +1,6 @@
 -- `check_records` meets its contract: a walk of its MIR, by hand, with a loop. In each turn the slice is looked into, the element is copied out, and the covered step is called on it.
 -- All that the walk knows of the three functions that it calls is that they meet their contracts. Assumes nothing.
-use mathlib.Core.Path.{_≡_, refl, sym, ap, _∙_, subst}
+use mathlib.Core.Path.{refl, sym, ap, subst}
 use Prim.Native.Nat.{ℕ, suc, _+_, _-_, _<_, _≤_, _^_}
 use native.Mathlib.Omega.{arith}
 use native.Mathlib.Numerals.{add-one}

@@ -4,7 +4,7 @@ use native.Mathlib.Omega.{arith}
 use mathlib.Core.Path.{_≡_, refl, sym, _∙_}
 use lib.ListN.{length, getD, length-set, length-take, getD-replicate}
 use lib.Seq.{ext-getD, getD-take, getD-set-other}
-use Rattle.outline.proofs.Laws.{grow}
+use Rattle.rules.proofs.Places.{grow}
 use Rattle.rules.specs.Limits.{typesMost}
 use Rattle.tally.specs.Bounds.{byteMost, boundsMost}
 use borrow.Author.Needs.{needs}

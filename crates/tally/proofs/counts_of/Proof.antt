@@ -5,7 +5,7 @@ use mathlib.Core.Path.{_≡_, refl, sym, _∙_}
 use lib.ListN.{length, getD, length-set}
 use lib.ListN.{length-take}
 use lib.Seq.{ext-getD, getD-take}
-use Rattle.outline.proofs.Laws.{grow}
+use Rattle.rules.proofs.Places.{grow}
 use borrow.Author.Needs.{needs}
 use Rattle.tally.proofs.counts_of.Statement.{statement}
 use Rattle.tally.proofs.counts_of.Tie as tie

@@ -4,7 +4,7 @@ use native.Mathlib.Omega.{arith}
 use mathlib.Core.Path.{_≡_, refl}
 use lib.ListN.{length, getD, length-set}
 use lib.Seq.{ext-getD}
-use Rattle.outline.proofs.Laws.{grow}
+use Rattle.rules.proofs.Places.{grow}
 use borrow.Author.Needs.{needs}
 use Rattle.tally.proofs.put_counts.Statement.{statement}
 use Rattle.tally.proofs.put_counts.Tie as tie

@@ -1,12 +1,11 @@
 -- `tally::rest` meets its contract. The invariant: below i the counts of the record are taken away. Assumes nothing.
-use Prim.Native.Nat.{ℕ, _+_, _-_, _≤_, _<_}
+use Prim.Native.Nat.{ℕ, _-_, _≤_, _<_}
 use native.Mathlib.Omega.{arith}
 use mathlib.Core.Path.{_≡_, refl}
 use lib.ListN.{length, getD, take, length-set, length-take}
 use lib.Seq.{getD-take}
 use Rattle.rules.specs.Limits.{typesMost}
-use Rattle.outline.proofs.Laws.{grow, at-most-at}
-use Rattle.tally.proofs.Laws.{plus-all}
+use Rattle.rules.proofs.Places.{grow, at-most-at, plus-all}
 use borrow.Author.Needs.{needs}
 use Rattle.tally.proofs.rest.Statement.{statement}
 use Rattle.tally.proofs.rest.Tie as tie

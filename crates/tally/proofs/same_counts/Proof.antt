@@ -6,7 +6,7 @@ use lib.ListN.{getD}
 use lib.ListN.{take, length-take}
 use lib.Seq.{getD-take}
 use borrow.Author.Count.{below-more}
-use Rattle.tally.proofs.Laws.{same-here, same-all}
+use Rattle.rules.proofs.Places.{same-here, same-all}
 use borrow.Author.Needs.{needs}
 use Rattle.tally.proofs.same_counts.Statement.{statement}
 use Rattle.tally.proofs.same_counts.Tie as tie

@@ -4,9 +4,8 @@ use native.Mathlib.Omega.{arith}
 use mathlib.Core.Path.{_≡_, refl, sym, ap, _∙_}
 use lib.ListN.{take}
 use Rattle.rules.proofs.Outlines.{atMost}
-use Rattle.outline.proofs.Laws.{at-most-here}
+use Rattle.rules.proofs.Places.{at-most-here, at-most-next}
 use Rattle.tally.specs.Bounds.{boundsMost}
-use Rattle.tally.proofs.Laws.{at-most-next}
 use borrow.Author.Needs.{needs}
 use Rattle.tally.proofs.within.Statement.{statement}
 use Rattle.tally.proofs.within.Tie as tie

@@ -1,18 +1,26 @@
--- Counts, place by place. Assumes nothing.
-use mathlib.Core.Path.{_≡_, refl, ap, _∙_}
-use mathlib.Core.Bool.{true, false, _&&_}
+-- Counts, place by place: what a loop over them has found so far. Assumes nothing.
+use mathlib.Core.Path.{_≡_, refl, sym, ap, _∙_}
+use mathlib.Core.Bool.{true, false, _&&_, true≢false}
 use mathlib.Core.List.{List, [], _∷_}
 use Prim.Native.Nat.{ℕ, zero, suc, _+_, _≤_, _<_}
 use native.Mathlib.Omega.{arith}
 use native.Mathlib.Numerals.{add-one}
+use native.Mathlib.Decide.{decLe}
 use lib.Dec.{eqb, leb}
-use lib.ListN.{length, getD, take}
-use borrow.Author.Tests.{eq-eqb, ne-eqb, le-leb}
+use lib.ListN.{length, getD, take, set}
+use lib.Seq.{getD-set-same, getD-set-other}
+use borrow.Author.Count.{below-more}
+use borrow.Author.Tests.{eq-eqb, ne-eqb, le-leb, lt-leb}
 use Rattle.rules.specs.Job.{plus}
 use Rattle.rules.proofs.Bools.{and-false-left, and-false-right, both-and}
 use Rattle.rules.proofs.Outlines.{sameList, atMost}
 
--- the test of counts, place by place
+-- a store at i, where what holds below i holds at i by the value stored
+pub grow : (r : List ℕ) (i v : ℕ) (f : ℕ → ℕ) → i < length r → ((k : ℕ) → k < i → getD r k 0 ≡ f k) → v ≡ f i → (k : ℕ) → k < i + 1 → getD (set r i v) k 0 ≡ f k
+grow r i v f l p e =
+    below-more (λ k. getD (set r i v) k 0 ≡ f k) i (λ k h. getD-set-other r i k v 0 (omega arith) ∙ p k h) (getD-set-same r i v 0 l ∙ e)
+
+-- the test whether counts are the same
 pub same-here : (n : ℕ) (a b : List ℕ) (i : ℕ) → i < n → i < length a → i < length b → (getD a i 0 ≡ getD b i 0 → ⊥) → sameList (take n a) (take n b) ≡ false
 same-here zero a b i h l m p = absurd (omega arith)
 same-here (suc n) [] b i h l m p = absurd (omega arith)
@@ -52,3 +60,24 @@ plus-all (suc n) [] b c l m k p = absurd (omega arith)
 plus-all (suc n) (x ∷ a) [] c l m k p = absurd (omega arith)
 plus-all (suc n) (x ∷ a) (y ∷ b) [] l m k p = absurd (omega arith)
 plus-all (suc n) (x ∷ a) (y ∷ b) (z ∷ c) l m k p = λ j. p 0 (omega arith) j ∷ plus-all n a b c (omega arith) (omega arith) (omega arith) (λ i h. p (suc i) (omega arith)) j
+
+-- the test whether counts keep to bounds
+pub at-most-here : (n : ℕ) (c ds : List ℕ) (i : ℕ) → i < n → i < length c → getD ds i 0 < getD c i 0 → atMost (take n c) ds ≡ false
+at-most-here zero c ds i h l p = absurd (omega arith)
+at-most-here (suc n) [] ds i h l p = absurd (omega arith)
+at-most-here (suc n) (c ∷ cs) [] i h l p = refl
+at-most-here (suc n) (c ∷ cs) (d ∷ ds) zero h l p = and-false-left (atMost (take n cs) ds) (lt-leb c d p)
+at-most-here (suc n) (c ∷ cs) (d ∷ ds) (suc i) h l p = and-false-right (leb c d) (at-most-here n cs ds i (omega arith) (omega arith) p)
+
+pub at-most-all : (n : ℕ) (c ds : List ℕ) → n ≤ length ds → ((i : ℕ) → i < n → getD c i 0 ≤ getD ds i 0) → atMost (take n c) ds ≡ true
+at-most-all zero c ds h p = refl
+at-most-all (suc n) [] ds h p = refl
+at-most-all (suc n) (c ∷ cs) [] h p = absurd (omega arith)
+at-most-all (suc n) (c ∷ cs) (d ∷ ds) h p = both-and (le-leb c d (p 0 (omega arith))) (at-most-all n cs ds (omega arith) (λ i k. p (suc i) (omega arith)))
+
+pub at-most-at : (n : ℕ) (c ds : List ℕ) (i : ℕ) → i < n → i < length c → atMost (take n c) ds ≡ true → getD c i 0 ≤ getD ds i 0
+at-most-at n c ds i h l e = go (decLe (getD c i 0) (getD ds i 0))
+  where
+    go : Dec (getD c i 0 ≤ getD ds i 0) → getD c i 0 ≤ getD ds i 0
+    go (yes p) = p
+    go (no p) = absurd (true≢false (sym e ∙ at-most-here n c ds i h l (omega arith)))

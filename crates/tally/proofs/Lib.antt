@@ -1,2 +1,0 @@
--- Proofs that the functions meet their contracts.
-pub mod Laws

@@ -7,7 +7,7 @@ use lib.ListN.{getD}
 use Rattle.rules.specs.Planner.{PlanAnswer}
 use Rattle.rules.specs.Answers.{PlanLeft, PlanNumbers, PlanText, CheckNumbers, CheckText}
 use Rattle.rules.proofs.Answers.{Agree, check-numbers-once, check-text-once, plan-numbers-once, plan-text-once}
-use Rattle.varandeco.specs.Reply.{planNumbers, checkNumbers, handedOut, Reply}
+use Rattle.handing.specs.Reply.{planNumbers, checkNumbers, handedOut, Reply}
 
 -- the numbers in the lent answer, and the number returned
 pub record Same (now now′ : List ℕ) (r r′ : ℕ) : Type 0 where

@@ -1,7 +1,7 @@
--- `varandeco::type_at` meets its contract. Assumes nothing.
+-- `handing::type_at` meets its contract. Assumes nothing.
 use borrow.Author.Needs.{needs}
-use Rattle.varandeco.proofs.type_at.Statement.{statement}
-use Rattle.varandeco.proofs.type_at.Tie as tie
+use Rattle.handing.proofs.type_at.Statement.{statement}
+use Rattle.handing.proofs.type_at.Tie as tie
 
 number-at-requires : tie.Need-number-at-requires
 number-at-requires c κs = search needs

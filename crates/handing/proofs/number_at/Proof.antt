@@ -1,9 +1,9 @@
--- `varandeco::number_at` meets its contract. Assumes nothing.
+-- `handing::number_at` meets its contract. Assumes nothing.
 use mathlib.Core.Path.{sym}
 use lib.ListN.{List·getD-eq-default}
 use borrow.Author.Needs.{needs}
-use Rattle.varandeco.proofs.number_at.Statement.{statement}
-use Rattle.varandeco.proofs.number_at.Tie as tie
+use Rattle.handing.proofs.number_at.Statement.{statement}
+use Rattle.handing.proofs.number_at.Tie as tie
 
 mul-result : tie.Need-mul-result
 mul-result c = search needs

@@ -1,9 +1,9 @@
--- `varandeco::hand_out` meets its contract: numbers are handed out one after the other. Assumes nothing.
+-- `handing::hand_out` meets its contract: numbers are handed out one after the other. Assumes nothing.
 use Prim.Native.Nat.{_-_}
 use borrow.Author.Needs.{needs}
-use Rattle.varandeco.proofs.Laws.{HandingOut, handing-start, handing-next, handing-end}
-use Rattle.varandeco.proofs.hand_out.Statement.{statement}
-use Rattle.varandeco.proofs.hand_out.Tie as tie
+use Rattle.handing.proofs.Laws.{HandingOut, handing-start, handing-next, handing-end}
+use Rattle.handing.proofs.hand_out.Statement.{statement}
+use Rattle.handing.proofs.hand_out.Tie as tie
 
 abbrev Inv-loop : tie.InvT-loop
 Inv-loop numbers answer₀ end i₀ answer i = HandingOut numbers answer₀ answer end i

@@ -1,11 +1,11 @@
--- `varandeco::job_of` meets its contract: types are read one after the other. Assumes nothing.
+-- `handing::job_of` meets its contract: types are read one after the other. Assumes nothing.
 use Prim.Native.Nat.{_-_}
 use borrow.Author.Needs.{needs}
 use Rattle.rules.specs.Limits.{typesMost}
-use Rattle.varandeco.proofs.Laws.{ReadingTypes, types-next, types-end}
+use Rattle.handing.proofs.Laws.{ReadingTypes, types-next, types-end}
 use Rattle.rules.specs.Items.{handedOver}
-use Rattle.varandeco.proofs.job_of.Statement.{statement}
-use Rattle.varandeco.proofs.job_of.Tie as tie
+use Rattle.handing.proofs.job_of.Statement.{statement}
+use Rattle.handing.proofs.job_of.Tie as tie
 
 abbrev Inv-loop : tie.InvT-loop
 Inv-loop numbers types₀ t₀ types t = ReadingTypes numbers types t

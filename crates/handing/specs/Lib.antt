@@ -1,0 +1,3 @@
+-- Jobs and answers as slices of numbers.
+pub mod Reply
+pub mod Slice

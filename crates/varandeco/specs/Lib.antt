@@ -1,3 +1,0 @@
--- What the exported functions promise.
-pub mod Reply
-pub mod Slice

@@ -21,9 +21,11 @@ need_library() {
 }
 
 install() {
-    mkdir -p target
     command -v apt-get >/dev/null && [ "$(id -u)" = 0 ] || return 1
-    { apt-get update && DEBIAN_FRONTEND=noninteractive apt-get install -y --no-install-recommends "$@"; } >target/apt.log 2>&1
+    said=$({ apt-get update && DEBIAN_FRONTEND=noninteractive apt-get install -y --no-install-recommends "$@"; } 2>&1) || {
+        printf '%s\n' "$said" | tail -n 5 >&2
+        return 1
+    }
 }
 
 need_cc() {

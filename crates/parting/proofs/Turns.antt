@@ -33,8 +33,8 @@ no-way across s l h n m p = omega (arith, stuck m n p, length-map l (boxAt s))
 pub answers-length : {s was now : List ℕ} {r : Bool} → Answers s was now r → length now ≡ length was
 answers-length {was = was} {now = now} a = same-length now was (a .same)
 
-pub few-answers : (s l : List ℕ) → length l < 2 → Answers s l l true
-few-answers s l h = record { same = same-refl l; yes-if = λ e. few {bs = boxesOf s l} (omega (arith, length-map l (boxAt s))); no-if = λ e p. true≢false e }
+pub few-answers : {s l : List ℕ} → length l < 2 → Answers s l l true
+few-answers {s} {l} h = record { same = same-refl l; yes-if = λ e. few {bs = boxesOf s l} (omega (arith, length-map l (boxAt s))); no-if = λ e p. true≢false e }
 
 pub answers-as : {s was now : List ℕ} {r q : Bool} → r ≡ q → Answers s was now r → Answers s was now q
 answers-as {s} {was} {now} e a = subst (Answers s was now) e a
@@ -42,7 +42,7 @@ answers-as {s} {was} {now} e a = subst (Answers s was now) e a
 pub divide-asks : {s l : List ℕ} {w : Way} {flag : ℕ} (way : ℕ) → Asks s w l flag → way < 2 → 2 ≤ length l → Region s way l × (0 < length l)
 divide-asks way asks two h = (record { two = two; listed = asks .listed }, omega arith)
 
-module _ (s l l1 : List ℕ) (w : Way) (k flag : ℕ) (d : Divided s w l l1 k) (asks : Asks s w l flag) where
+module _ {s l l1 : List ℕ} {w : Way} {k flag : ℕ} (d : Divided s w l l1 k) (asks : Asks s w l flag) where
   listed-after : All (Listed s) l1
   listed-after = all-reordered l1 (d .same) (asks .listed)
 
@@ -70,8 +70,8 @@ module _ (s l l1 : List ℕ) (w : Way) (k flag : ℕ) (d : Divided s w l l1 k) (
   pub turn-falls : (t : ℕ) → 2 * length l + flag ≡ t → (flag ≡ 0 → ⊥) → 2 * length l1 + 0 < t
   turn-falls t e n = omega (arith, same-length l1 l (d .same), asks .flagged)
 
-  pub turn-answers : (l2 : List ℕ) (r : Bool) → Answers s l1 l2 r → Answers s l l2 r
-  turn-answers l2 r a = record {
+  pub turn-answers : {l2 : List ℕ} {r : Bool} → Answers s l1 l2 r → Answers s l l2 r
+  turn-answers {l2} a = record {
     same = same-trans l2 l1 l (a .same) (d .same);
     yes-if = λ q. parted-before (a .yes-if q);
     no-if = λ q p. a .no-if q (parted-after p);
@@ -92,14 +92,14 @@ module _ (s l l1 : List ℕ) (w : Way) (k flag : ℕ) (d : Divided s w l l1 k) (
       let e : boxesOf s (take k l1) ++ boxesOf s (drop k l1) ≡ boxesOf s l1 = sym (map-append (boxAt s) (take k l1) (drop k l1)) ∙ ap (boxesOf s) (take-append-drop k l1) in
       ((λ p. x .0 (subst CanBeParted (sym e) p)), (λ p q. subst CanBeParted e (x .1 (p, q))))
 
-  pub false-answers : (a : List ℕ) → Answers s (take k l1) a false → Answers s l (a ++ drop k l1) false
-  false-answers a f = record {
+  pub false-answers : {a : List ℕ} → Answers s (take k l1) a false → Answers s l (a ++ drop k l1) false
+  false-answers {a} f = record {
     same = same-trans (a ++ drop k l1) l1 l (same-front k a l1 (f .same)) (d .same);
     yes-if = λ q. absurd (true≢false (sym q));
     no-if = λ q p. f .no-if refl (sides .0 (parted-after p) .0);
   }
 
-  module _ (a : List ℕ) (f : Answers s (take k l1) a true) where
+  module _ {a : List ℕ} (f : Answers s (take k l1) a true) where
     pub long : length a ≡ k
     long = same-length a (take k l1) (f .same) ∙ simp length-take (omega (arith, d .part .within))
 
@@ -118,9 +118,9 @@ module _ (s l l1 : List ℕ) (w : Way) (k flag : ℕ) (d : Divided s w l l1 k) (
     pub rest-asks : Asks s w (take (length (a ++ drop k l1) - k) (drop k (a ++ drop k l1))) 1
     rest-asks = record { listed = rw rest-is (all-drop k listed-after); flagged = omega arith; uncut = λ z. absurd (omega arith) }
 
-    pub both-answers : (b : List ℕ) (r : Bool) → Answers s (take (length (a ++ drop k l1) - k) (drop k (a ++ drop k l1))) b r
+    pub both-answers : {b : List ℕ} {r : Bool} → Answers s (take (length (a ++ drop k l1) - k) (drop k (a ++ drop k l1))) b r
         → Answers s l (take k (a ++ drop k l1) ++ (b ++ drop (length (a ++ drop k l1) - k) (drop k (a ++ drop k l1)))) r
-    both-answers b r g0 =
+    both-answers {b} {r} g0 =
         let g = subst (λ t. Answers s t b r) rest-is g0 in
         let none : drop (length (a ++ drop k l1) - k) (drop k (a ++ drop k l1)) ≡ [] = drop-of-length-le (drop k (a ++ drop k l1)) {i = length (a ++ drop k l1) - k} (simp length-drop (omega arith)) in
         rw (none, append-nil, take-at a (drop k l1) k long)

@@ -46,7 +46,7 @@ next-y : (w : box.Way) (y m n : ℕ) (o : Outline) → nextY w y (outlineOf m o)
 next-y box.along y m n o = refl
 next-y box.across y m n o = refl
 
-module _ (s : List ℕ) (i x y : ℕ) (buf : List ℕ) (v : Node) (is : IsNode s i x y v) (ready : Layable s i x y buf) where
+module _ {s : List ℕ} {i x y : ℕ} {buf : List ℕ} {v : Node} (is : IsNode s i x y v) (ready : Layable s i x y buf) where
   abbrev bound : Placeable s i x y
   bound = ready .placeable
 
@@ -61,8 +61,8 @@ module _ (s : List ℕ) (i x y : ℕ) (buf : List ℕ) (v : Node) (is : IsNode s
         let e = pieces-of (ready .types) (ready .records) (ready .placements) (ready .reads) (ready .lays) in
         omega (arith, ready .fits, length-flatOf (ready .placements), ap length e)
 
-    pub laid-leaf : (after : List ℕ) (r : ℕ) → (r ≡ 3) × (after ≡ v .kind ∷ x ∷ y ∷ drop 3 buf) → LaidOut s i x y buf after r
-    laid-leaf after r (hr, ha) = record {
+    pub laid-leaf : {after : List ℕ} {r : ℕ} → (r ≡ 3) × (after ≡ v .kind ∷ x ∷ y ∷ drop 3 buf) → LaidOut s i x y buf after r
+    laid-leaf (hr, ha) = record {
       wrote = λ types rs ps q l.
           let e = pieces-of types rs ps q l in
           record {
@@ -110,7 +110,7 @@ module _ (s : List ℕ) (i x y : ℕ) (buf : List ℕ) (v : Node) (is : IsNode s
           fits = omega (arith, both-fit);
         }
 
-    module _ (b1 : List ℕ) (n : ℕ) (first : LaidOut s (v .first) x y buf b1 n) where
+    module _ {b1 : List ℕ} {n : ℕ} (first : LaidOut s (v .first) x y buf b1 n) where
       wrote-first : (types : ℕ) (rs : List Rec) (ps : List Placed) (r : Reads types rs s i) (l : Lays rs i x y ps) → Wrote (halves types rs ps r l .first) buf b1 n
       wrote-first types rs ps r l = first .wrote types rs _ (reads-less types rs s i (v .first) (let k = lower in omega arith) r) (halves types rs ps r l .lays-first)
 
@@ -141,8 +141,8 @@ module _ (s : List ℕ) (i x y : ℕ) (buf : List ℕ) (v : Node) (is : IsNode s
             fits = omega (arith, both-fit, ap length part-is, length-drop n buf, wrote .count);
           }
 
-      pub laid-join : (p2 : List ℕ) (m : ℕ) → LaidOut s (v .second) (v .corner .x) (v .corner .y) (take (length b1 - n) (drop n b1)) p2 m → LaidOut s i x y buf (take n b1 ++ (p2 ++ drop (length b1 - n) (drop n b1))) (n + m)
-      laid-join p2 m second = record {
+      pub laid-join : {p2 : List ℕ} {m : ℕ} → LaidOut s (v .second) (v .corner .x) (v .corner .y) (take (length b1 - n) (drop n b1)) p2 m → LaidOut s i x y buf (take n b1 ++ (p2 ++ drop (length b1 - n) (drop n b1))) (n + m)
+      laid-join {p2} {m} second = record {
         wrote = λ types rs ps r l.
             let hv = halves types rs ps r l in
             let f = wrote-first types rs ps r l in

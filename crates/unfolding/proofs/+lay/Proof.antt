@@ -35,8 +35,8 @@ lay-lay-requires t c κs =
     let st = nd .before .before .before in
     let node = nd .node-at .ensures in
     let ready = st .pre .1 in
-    let l = lower _ _ _ _ _ _ node ready (y .if1 .taken) in
-    (omega arith, ready-first _ _ _ _ _ _ node ready (y .if1 .taken))
+    let l = lower node ready (y .if1 .taken) in
+    (omega arith, ready-first node ready (y .if1 .taken))
 
 lay-mul-lay : (t : ℕ) → lay-lts.Need-mul-lay (cs t) (lay-at t) lay.Post
 lay-mul-lay t c =
@@ -45,7 +45,7 @@ lay-mul-lay t c =
     let st = nd .before .before .before in
     let node = nd .node-at .ensures in
     let ready = st .pre .1 in
-    let w = within _ _ _ _ _ _ node ready (y .if1 .taken) _ _ (c .before .before .lay .ensures) in
+    let w = within node ready (y .if1 .taken) (c .before .before .lay .ensures) in
     omega (arith, st .good .1 .1 .1 .1 .0 .1)
 
 lay-sub-lay : (t : ℕ) → lay-lts.Need-sub-lay (cs t) (lay-at t) lay.Post
@@ -55,7 +55,7 @@ lay-sub-lay t c =
     let st = nd .before .before .before in
     let node = nd .node-at .ensures in
     let ready = st .pre .1 in
-    let w = within _ _ _ _ _ _ node ready (y .if1 .taken) _ _ (c .before .before .lay .ensures) in
+    let w = within node ready (y .if1 .taken) (c .before .before .lay .ensures) in
     omega arith
 
 lay-part-lay-start : (t : ℕ) → lay-lts.Need-part-lay-start (cs t) (lay-at t) lay.Post
@@ -65,7 +65,7 @@ lay-part-lay-start t c =
     let st = nd .before .before .before in
     let node = nd .node-at .ensures in
     let ready = st .pre .1 in
-    let w = within _ _ _ _ _ _ node ready (y .if1 .taken) _ _ (c .before .before .lay .ensures) in
+    let w = within node ready (y .if1 .taken) (c .before .before .lay .ensures) in
     omega arith
 
 lay-part-lay-end : (t : ℕ) → lay-lts.Need-part-lay-end (cs t) (lay-at t) lay.Post
@@ -78,8 +78,8 @@ lay-lay-requires-2 t c κs =
     let st = nd .before .before .before in
     let node = nd .node-at .ensures in
     let ready = st .pre .1 in
-    let l = lower _ _ _ _ _ _ node ready (y .if1 .taken) in
-    (omega arith, ready-second _ _ _ _ _ _ node ready (y .if1 .taken) _ _ (c .before .before .before .lay .ensures))
+    let l = lower node ready (y .if1 .taken) in
+    (omega arith, ready-second node ready (y .if1 .taken) (c .before .before .before .lay .ensures))
 
 lay-add-result : (t : ℕ) → lay-lts.Need-add-result (cs t) (lay-at t) lay.Post
 lay-add-result t c =
@@ -89,7 +89,7 @@ lay-add-result t c =
     let node = nd .node-at .ensures in
     let ready = st .pre .1 in
     let one = c .before .before .before .before .before .before .lay .ensures in
-    let e = laid-join _ _ _ _ _ _ node ready (y .if1 .taken) _ _ one _ _ (c .before .before .lay2 .ensures) in
+    let e = laid-join node ready (y .if1 .taken) one (c .before .before .lay2 .ensures) in
     omega (arith, e .wrote (ready .types) (ready .records) (ready .placements) (ready .reads) (ready .lays) .count, ready .fits, st .good .1 .1 .1 .1 .0 .0)
 
 lay-same-length : (t : ℕ) → lay-lts.Need-same-length (cs t) (lay-at t) lay.Post
@@ -103,7 +103,7 @@ lay-returns t c =
     let node = nd .node-at .ensures in
     let ready = st .pre .1 in
     let one = c .before .before .before .before .before .before .lay .ensures in
-    laid-join _ _ _ _ _ _ node ready (y .if1 .taken) _ _ one _ _ (c .before .before .lay2 .ensures)
+    laid-join node ready (y .if1 .taken) one (c .before .before .lay2 .ensures)
 
 lay-put-requires : (t : ℕ) → lay-lts.Need-put-requires (cs t) (lay-at t) lay.Post
 lay-put-requires t c κs =
@@ -112,7 +112,7 @@ lay-put-requires t c κs =
     let st = nd .before .before .before in
     let node = nd .node-at .ensures in
     let ready = st .pre .1 in
-    leaf-room _ _ _ _ _ _ node ready (y .if1 .left)
+    leaf-room node ready (y .if1 .left)
 
 lay-same-length-2 : (t : ℕ) → lay-lts.Need-same-length-2 (cs t) (lay-at t) lay.Post
 lay-same-length-2 t c = search needs
@@ -124,7 +124,7 @@ lay-returns-2 t c =
     let st = nd .before .before .before in
     let node = nd .node-at .ensures in
     let ready = st .pre .1 in
-    laid-leaf _ _ _ _ _ _ node ready (y .if1 .left) _ _ (c .before .before .put .ensures)
+    laid-leaf node ready (y .if1 .left) (c .before .before .put .ensures)
 
 pub +lay-spec : {M : Type 1} → statement M
 +lay-spec = close μ-lay λ t. lay-lts.spec (cs t)

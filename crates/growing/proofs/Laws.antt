@@ -34,8 +34,8 @@ not-true true h = absurd (h refl)
 not-true false h = refl
 
 -- an outline with other counts is another
-pub absent-before : (types : ℕ) (s : List ℕ) (start n : ℕ) (o : Outline) → Absent types s start n o → (k : ℕ) → k < start → sameOutline (outlineOf types o) (outlineOf types (recordAt s k .outline)) ≡ false
-absent-before types s start n o a k h = not-true _ (λ e. a .before k h (sym (ap (λ (u : rules.Outline). u .counts) (same-eq (outlineOf types o) (outlineOf types (recordAt s k .outline)) e))))
+pub absent-before : {types : ℕ} {s : List ℕ} {start n : ℕ} {o : Outline} → Absent types s start n o → (k : ℕ) → k < start → sameOutline (outlineOf types o) (outlineOf types (recordAt s k .outline)) ≡ false
+absent-before {types} {s} {o = o} a k h = not-true _ (λ e. a .before k h (sym (ap (λ (u : rules.Outline). u .counts) (same-eq (outlineOf types o) (outlineOf types (recordAt s k .outline)) e))))
 
 -- a class with nothing in it yet
 pub nothing-grows : {types : ℕ} {s : List ℕ} {n : ℕ} {c : List ℕ} → Directory types s n → ((q : ℕ) → q < n → countsAt types s q ≡ c → ⊥) → Growing types s n n c

@@ -22,8 +22,8 @@ pub record HandingOut (numbers was now : List ℕ) (end i : ℕ) : Type 0 where
   pub size : length now ≡ length was
   pub copied : now ≡ paste was 0 numbers i
 
-pub handing-start : (numbers was : List ℕ) (end : ℕ) → HandingOut numbers was was end 0
-handing-start numbers was end = record { within = omega arith; size = refl; copied = paste-zero was 0 numbers }
+pub handing-start : {numbers was : List ℕ} {end : ℕ} → HandingOut numbers was was end 0
+handing-start {numbers} {was} = record { within = omega arith; size = refl; copied = paste-zero was 0 numbers }
 
 pub handing-next : {numbers was now : List ℕ} {end i : ℕ} → HandingOut numbers was now end i → end ≡ min (length numbers) (length was) → i < end → HandingOut numbers was (set now i (getD numbers i 0)) end (i + 1)
 handing-next {numbers} {was} {now} {end} {i} x e h = record {

@@ -26,8 +26,8 @@ pub record Laying (j : Job) (flat was s : List ℕ) (i : ℕ) : Type 0 where
   pub listed : (k : ℕ) → k < i → Listed s k
   pub at : (k : ℕ) → k < i → boxAt s k ≡ placed (numbersOf j) (entryAt flat k) .box
 
-pub laying-start : (j : Job) (flat s : List ℕ) → Laying j flat s s 0
-laying-start j flat s = record { within = omega arith; same-length = refl; listed = λ k h. absurd (omega arith); at = λ k h. absurd (omega arith) }
+pub laying-start : {j : Job} {flat s : List ℕ} → Laying j flat s s 0
+laying-start = record { within = omega arith; same-length = refl; listed = λ k h. absurd (omega arith); at = λ k h. absurd (omega arith) }
 
 module _ {j : Job} {flat was s : List ℕ} {i : ℕ} (ask : ToLay j flat was) (g : Laying j flat was s i) (h : i < slotsOf (length flat)) (p : Placement) (is-p : entryOf p ≡ entryAt flat i) (t : declared.PieceType) (is-t : TypeOf j (p .kind) t) where
   length-is : rules.ofType noType (numbersOf j .types) (p .kind) .long ≡ t .length

@@ -22,8 +22,8 @@ pub record Summing (j : Job) (flat : List ℕ) (i total : ℕ) : Type 0 where
   pub sum : total ≡ worth (jobOf (numbersOf j)) (lying (numbersOf j) (drop i (entries flat)))
   pub bound : total ≤ profitMost * (slotsOf (length flat) - i)
 
-pub summing-start : (j : Job) (flat : List ℕ) (i : ℕ) → i ≡ slotsOf (length flat) → Summing j flat i 0
-summing-start j flat i e = record {
+pub summing-start : {j : Job} {flat : List ℕ} {i : ℕ} → i ≡ slotsOf (length flat) → Summing j flat i 0
+summing-start {j} {flat} {i} e = record {
   within = omega arith;
   sum = ap (λ l. worth (jobOf (numbersOf j)) (lying (numbersOf j) l)) (sym (drop-of-length-le (entries flat) {i = i} (omega (arith, length-entries flat))));
   bound = omega arith;

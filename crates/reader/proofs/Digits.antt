@@ -44,8 +44,8 @@ pub record Grows (b n v : ℕ) : Type 0 where
   pub fits : v * 10 + (b - 48) < 10 ^ (n + 1)
   pub small : v < 10000000
 
-pub grows : (b n v : ℕ) → v < 10 ^ n → (isDigit b && room n v) ≡ true → Grows b n v
-grows b n v h e =
+pub grows : {b n v : ℕ} → v < 10 ^ n → (isDigit b && room n v) ≡ true → Grows b n v
+grows {b} {n} {v} h e =
     let p = and-both (isDigit b) (room n v) e in
     let q = and-both (leb 48 b) (ltb b 58) (p .0) in
     let lo = leb-true 48 b (q .0) in

@@ -50,8 +50,8 @@ drop-three l j ns = drop-set-lt (j + 3) (set (set l j (getD ns 0 0)) (j + 1) (ge
 length-three : (l : List ℕ) (j : ℕ) (ns : List ℕ) → length (three l j ns) ≡ length l
 length-three l j ns = length-set (set (set l j (getD ns 0 0)) (j + 1) (getD ns 1 0)) (j + 2) (getD ns 2 0) ∙ length-set (set l j (getD ns 0 0)) (j + 1) (getD ns 1 0) ∙ length-set l j (getD ns 0 0)
 
-pub in-placements-start : (t : List ℕ) (from n : ℕ) (was : List ℕ) → InPlacements t from n was was from 0 0
-in-placements-start t from n was = record {
+pub in-placements-start : {t : List ℕ} {from n : ℕ} {was : List ℕ} → InPlacements t from n was was from 0 0
+in-placements-start {t} {from} {n} = record {
   within = omega arith;
   place = refl;
   size = refl;

@@ -18,8 +18,8 @@ use Rattle.reading.proofs.Walks.{walk-start, walk-is, walk-is-not, walk
 same-line : {k m : ℕ} → k ≡ m → (s : Script) → aLine k s ≡ aLine m s
 same-line e s = ap (λ n. aLine n s) e
 
-pub in-line-start : (t : List ℕ) (from w : ℕ) (numbers : List ℕ) → 0 < w → length numbers ≡ 4 → InLine t from w numbers from 0
-in-line-start t from w numbers h l = record { within = h; size = l; walking = walk-same (walk-start (aLine w) t from) refl (same-line {k = w} {m = w - 0} (omega arith)) }
+pub in-line-start : {t : List ℕ} {from w : ℕ} {numbers : List ℕ} → 0 < w → length numbers ≡ 4 → InLine t from w numbers from 0
+in-line-start {t} {from} {w} h l = record { within = h; size = l; walking = walk-same (walk-start (aLine w) t from) refl (same-line {k = w} {m = w - 0} (omega arith)) }
 
 -- what a line asks for next: a number and a space, or the last number and LF
 asks-space : (k : ℕ) → 1 < k → (s : Script) → aLine k s ≡ num space (λ v. aLine (k - 1) s)
@@ -67,8 +67,8 @@ pub no-lines : (w left : ℕ) → left ≤ 0 → (s : Script) → someLines left
 no-lines w zero h s = refl
 no-lines w (suc n) h s = absurd (omega arith)
 
-pub in-lines-start : (t : List ℕ) (from n w : ℕ) → InLines t from n w from n
-in-lines-start t from n w = record { numbers = []; walking = walk-start (someLines n w) t from }
+pub in-lines-start : {t : List ℕ} {from n w : ℕ} → InLines t from n w from n
+in-lines-start {t} {from} {n} {w} = record { numbers = []; walking = walk-start (someLines n w) t from }
 
 module _ {t : List ℕ} {from n w at left : ℕ} (x : InLines t from n w at left) where
   pub in-lines-next : 0 < left → (vs : List ℕ) (next : ℕ) → Walking (aLine w) t at vs (λ s. s) next → InLines t from n w next (left - 1)
@@ -81,10 +81,10 @@ module _ {t : List ℕ} {from n w at left : ℕ} (x : InLines t from n w at left
   in-lines-end h = record { numbers = x .numbers; walked = arrives (walk-same (x .walking) refl (no-lines w left h)) }
 
 -- a section: its count, and then its lines
-pub section-stops : (t : List ℕ) (from w place : ℕ) → numberAt 10 t from ≡ IsNot place → Passed (section w) t from (Stops place)
-section-stops t from w place e = record { numbers = []; walked = leaves (walk-is-not (walk-start (section w) t from) line (λ n. someLines n w) (λ s. refl) place e) }
+pub section-stops : {t : List ℕ} {from w place : ℕ} → numberAt 10 t from ≡ IsNot place → Passed (section w) t from (Stops place)
+section-stops {t} {from} {w} {place} e = record { numbers = []; walked = leaves (walk-is-not (walk-start (section w) t from) line (λ n. someLines n w) (λ s. refl) place e) }
 
-pub section-passed : (t : List ℕ) (from w n next : ℕ) → numberAt 10 t from ≡ Is n next → {r : Walk} → Passed (someLines n w) t next r → Passed (section w) t from r
-section-passed t from w n next e p =
+pub section-passed : {t : List ℕ} {from w n next : ℕ} → numberAt 10 t from ≡ Is n next → {r : Walk} → Passed (someLines n w) t next r → Passed (section w) t from r
+section-passed {t} {from} {w} {n} {next} e p =
     let x = walk-is (walk-start (section w) t from) line (λ n. someLines n w) (λ s. refl) n next e in
     record { numbers = n ∷ p .numbers; walked = walk-both x (someLines n w) (λ s. refl) (p .walked) }

@@ -47,8 +47,8 @@ stored types i ns h l =
     take-map typeOf (i + 1) (set types i p) ∙ ap (map typeOf) (ap (λ k. take k (set types i p)) (add-one i) ∙ take-suc-set types i p h) ∙ map-append typeOf (take i types) (p ∷ []) ∙ ap (λ q. q ++ (typeOf p ∷ [])) (sym (take-map typeOf i types)) in
     sym (ap typeItems t ∙ items-append (take i (map typeOf types)) (typeOf p ∷ []) ∙ ap (λ q. numbersOfTypes i types ++ q) (four ns l))
 
-pub in-pieces-start : (t : List ℕ) (from n : ℕ) (types : List PieceType) → types ≡ noTypes → InPieces t from n types from 0
-in-pieces-start t from n types e = record {
+pub in-pieces-start : {t : List ℕ} {from n : ℕ} {types : List PieceType} → types ≡ noTypes → InPieces t from n types from 0
+in-pieces-start {t} {from} {n} e = record {
   within = omega arith;
   size = ap length e;
   walking = walk-same (walk-start (someLines n 4) t from) refl (λ s. let k : n ≡ n - 0 = omega arith in ap (λ m. someLines m 4 s) k);

@@ -65,12 +65,12 @@ pub record Reaching (numbers : List ℕ) (at size i next : ℕ) : Type 0 where
   pub room : next ≤ size
   pub ends : next + needed (drop i numbers) ≡ at + needed numbers
 
-module _ (vs : List ℕ) (at size : ℕ) where
+module _ {vs : List ℕ} {at size : ℕ} where
   pub reaching-first : at ≤ size → Reaching vs at size 0 at
   reaching-first h = record { within = omega arith; room = h; ends = refl }
 
   module _ {i next : ℕ} (r : Reaching vs at size i next) where
-    module _ (h : i < length vs) (count : ℕ) (e : count ≡ length (digits (getD vs i 0))) where
+    module _ (h : i < length vs) {count : ℕ} (e : count ≡ length (digits (getD vs i 0))) where
       pub reaching-next : count < size - next → Reaching vs at size (i + 1) (next + (count + 1))
       reaching-next k = record { within = omega arith; room = omega (arith, r .room); ends = omega (arith, r .ends, ap needed (next-one vs i h)) }
 
@@ -156,7 +156,7 @@ pub record Ruling (count width : ℕ) (flat before : List ℕ) (at : ℕ) (now :
   pub ruled : Ruled (count - i) width (drop from flat)
   pub way : OnTheWay (linesText count width flat) before at (linesText (count - i) width (drop from flat)) now next
 
-module _ (count w : ℕ) (flat : List ℕ) {o : List ℕ} {at : ℕ} where
+module _ {count w : ℕ} {flat o : List ℕ} {at : ℕ} where
   pub ruling-first : LinesFit count w flat o at → Ruling count w flat o at o 0 0 at
   ruling-first f =
       let z : count - 0 ≡ count = omega arith in

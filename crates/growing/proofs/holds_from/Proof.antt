@@ -20,7 +20,7 @@ abbrev μ-loop : tie.MeasureT-loop
 μ-loop arena start n o types i₀ i = n - i
 
 loop-holds : tie.Need-loop-holds Inv-loop μ-loop
-loop-holds c = (c .before .pre .begins, absent-before _ _ _ _ _ (c .before .pre))
+loop-holds c = (c .before .pre .begins, absent-before (c .before .pre))
 
 add-i : tie.Need-add-i Inv-loop μ-loop
 add-i c = search needs

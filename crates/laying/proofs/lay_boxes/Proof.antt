@@ -38,7 +38,7 @@ placements-in-requires : tie.Need-placements-in-requires Inv-loop μ-loop
 placements-in-requires c κs = search needs
 
 loop-holds : tie.Need-loop-holds Inv-loop μ-loop
-loop-holds c = laying-start _ _ _
+loop-holds c = laying-start
 
 entry-at-requires : tie.Need-entry-at-requires Inv-loop μ-loop
 entry-at-requires c κs = search needs

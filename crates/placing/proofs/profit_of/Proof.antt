@@ -17,7 +17,7 @@ placements-in-requires : tie.Need-placements-in-requires Inv-loop μ-loop
 placements-in-requires c κs = search needs
 
 loop-holds : tie.Need-loop-holds Inv-loop μ-loop
-loop-holds c = summing-start _ _ _ (c .placements-in .ensures)
+loop-holds c = summing-start (c .placements-in .ensures)
 
 sub-i : tie.Need-sub-i Inv-loop μ-loop
 sub-i c = search needs

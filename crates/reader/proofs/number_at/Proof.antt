@@ -32,7 +32,7 @@ may-follow-requires c κs = search needs
 -- what the test of a digit showed
 seen : (c : lts.Then1 (may-follow-reads.Asked, may-follow-reads.Learnt, digit-reads.Asked, digit-reads.Learnt) reads.Pre reads.Post Inv-loop μ-loop) →
     Grows (getD (c .before .before .before .before .before .before .args .text .now) (c .before .before .before .before .loop .at) 0) (c .before .before .before .before .loop .digits) (c .before .before .before .before .loop .value)
-seen c = grows _ _ _ (c .before .before .before .before .loop .inv .1) (sym (c .before .may-follow .ensures) ∙ c .if1 .taken)
+seen c = grows (c .before .before .before .before .loop .inv .1) (sym (c .before .may-follow .ensures) ∙ c .if1 .taken)
 
 mul-value : tie.Need-mul-value Inv-loop μ-loop
 mul-value c = omega (arith, seen c .small)

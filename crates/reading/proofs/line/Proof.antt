@@ -14,7 +14,7 @@ abbrev μ-loop : tie.MeasureT-loop
 μ-loop text from w numbers₀ at₀ j₀ numbers at j = w - j
 
 loop-holds : tie.Need-loop-holds Inv-loop μ-loop
-loop-holds c = in-line-start _ _ _ _ (c .before .pre .0) refl
+loop-holds c = in-line-start (c .before .pre .0) refl
 
 add-loop : tie.Need-add-loop Inv-loop μ-loop
 add-loop c = search needs

@@ -23,7 +23,7 @@ no-types-requires : tie.Need-no-types-requires Inv-loop μ-loop
 no-types-requires c κs = search needs
 
 loop-holds : tie.Need-loop-holds Inv-loop μ-loop
-loop-holds c = in-pieces-start _ _ _ _ (c .no-types .ensures)
+loop-holds c = in-pieces-start (c .no-types .ensures)
 
 line-requires : tie.Need-line-requires Inv-loop μ-loop
 line-requires c κs = search needs

@@ -27,7 +27,7 @@ room : (c : lts.In-loop (line-reads.Asked, line-reads.Learnt) reads.Pre reads.Po
 room c = fits (c .before .loop .inv) (c .before .before .before .before .pre) (c .loop-test .taken)
 
 loop-holds : tie.Need-loop-holds Inv-loop μ-loop
-loop-holds c = in-placements-start _ _ _ _
+loop-holds c = in-placements-start
 
 line-requires : tie.Need-line-requires Inv-loop μ-loop
 line-requires c κs = search needs

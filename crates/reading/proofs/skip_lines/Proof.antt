@@ -13,7 +13,7 @@ abbrev μ-loop : tie.MeasureT-loop
 μ-loop text from n w at₀ left₀ at left = left
 
 loop-holds : tie.Need-loop-holds Inv-loop μ-loop
-loop-holds c = in-lines-start _ _ _ _
+loop-holds c = in-lines-start
 
 line-requires : tie.Need-line-requires Inv-loop μ-loop
 line-requires c κs = search needs

@@ -18,12 +18,12 @@ skip-lines-requires : tie.Need-skip-lines-requires
 skip-lines-requires c κs = search needs
 
 returns : tie.Need-returns
-returns c = section-stops _ _ _ (c .before .place .given .0 .0) (sym (c .before .before .before .number-at .ensures) ∙ c .before .place .given .1)
+returns c = section-stops (sym (c .before .before .before .number-at .ensures) ∙ c .before .place .given .1)
 
 returns-2 : tie.Need-returns-2
 returns-2 c =
     let v = c .before .before in
-    section-passed _ _ _ (v .n .given .0 .0) (v .n .given .0 .1 .0) (sym (v .before .before .number-at .ensures) ∙ v .n .given .1) (c .skip-lines .ensures)
+    section-passed (sym (v .before .before .number-at .ensures) ∙ v .n .given .1) (c .skip-lines .ensures)
 
 pub skip-section-spec : {M : Type 1} → statement M
 skip-section-spec =

@@ -16,7 +16,7 @@ returns : tie.Need-returns Inv-loop μ-loop
 returns c = search needs
 
 loop-holds : tie.Need-loop-holds Inv-loop μ-loop
-loop-holds c = reaching-first _ _ _ (c .if1 .left)
+loop-holds c = reaching-first (c .if1 .left)
 
 mul-digit-count : tie.Need-mul-digit-count Inv-loop μ-loop
 mul-digit-count c = search needs
@@ -37,7 +37,7 @@ returns-2 : tie.Need-returns-2 Inv-loop μ-loop
 returns-2 c =
     let d = c .before in
     let t = d .before .before in
-    reaching-beyond _ _ _ (t .before .loop .inv) (t .loop-test .taken) _ (d .digit-count .ensures) (c .if2 .taken)
+    reaching-beyond (t .before .loop .inv) (t .loop-test .taken) (d .digit-count .ensures) (c .if2 .taken)
 
 add-next : tie.Need-add-next Inv-loop μ-loop
 add-next c = search needs
@@ -52,10 +52,10 @@ loop-again : tie.Need-loop-again Inv-loop μ-loop
 loop-again c =
     let d = c .before in
     let t = d .before .before in
-    reaching-next _ _ _ (t .before .loop .inv) (t .loop-test .taken) _ (d .digit-count .ensures) (c .if2 .left)
+    reaching-next (t .before .loop .inv) (t .loop-test .taken) (d .digit-count .ensures) (c .if2 .left)
 
 returns-3 : tie.Need-returns-3 Inv-loop μ-loop
-returns-3 c = reaching-done _ _ _ (c .before .loop .inv) (c .loop-test .left)
+returns-3 c = reaching-done (c .before .loop .inv) (c .loop-test .left)
 
 pub place-behind-spec : {M : Type 1} → statement M
 place-behind-spec =

@@ -13,10 +13,10 @@ abbrev μ-loop : tie.MeasureT-loop
 μ-loop count width flat out₀ at next₀ from₀ i₀ out next from i = count - i
 
 loop-holds : tie.Need-loop-holds Inv-loop μ-loop
-loop-holds c = ruling-first _ _ _ (c .before .before .pre)
+loop-holds c = ruling-first (c .before .before .pre)
 
 add-end : tie.Need-add-end Inv-loop μ-loop
-add-end c = omega (arith, ruling-there _ _ _ (c .before .loop .inv) (c .loop-test .taken))
+add-end c = omega (arith, ruling-there (c .before .loop .inv) (c .loop-test .taken))
 
 mul-put-line : tie.Need-mul-put-line Inv-loop μ-loop
 mul-put-line c = search needs
@@ -28,12 +28,12 @@ part-put-line-start : tie.Need-part-put-line-start Inv-loop μ-loop
 part-put-line-start c = search needs
 
 part-put-line-end : tie.Need-part-put-line-end Inv-loop μ-loop
-part-put-line-end c = omega (arith, ruling-there _ _ _ (c .before .loop .inv) (c .loop-test .taken))
+part-put-line-end c = omega (arith, ruling-there (c .before .loop .inv) (c .loop-test .taken))
 
 put-line-requires : tie.Need-put-line-requires Inv-loop μ-loop
 put-line-requires c κs =
     let t = c .before .before in
-    ruling-room _ _ _ (t .before .loop .inv) (t .loop-test .taken)
+    ruling-room (t .before .loop .inv) (t .loop-test .taken)
 
 add-i : tie.Need-add-i Inv-loop μ-loop
 add-i c = search needs
@@ -45,13 +45,13 @@ loop-again : tie.Need-loop-again Inv-loop μ-loop
 loop-again c =
     let n = c .before .before in
     let t = n .before .before .before in
-    ruling-next _ _ _ (t .before .loop .inv) (t .loop-test .taken) (n .put-line .ensures)
+    ruling-next (t .before .loop .inv) (t .loop-test .taken) (n .put-line .ensures)
 
 same-length : tie.Need-same-length Inv-loop μ-loop
 same-length c = search needs
 
 returns : tie.Need-returns Inv-loop μ-loop
-returns c = ruling-done _ _ _ (c .before .loop .inv) (c .loop-test .left)
+returns c = ruling-done (c .before .loop .inv) (c .loop-test .left)
 
 pub put-lines-spec : {M : Type 1} → statement M
 put-lines-spec =

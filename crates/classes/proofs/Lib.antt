@@ -1,2 +1,4 @@
--- The laws that the proofs of this crate and of those above it cite.
+-- Proofs that the functions meet their contracts.
+pub mod Chains
 pub mod Laws
+pub mod OneLess

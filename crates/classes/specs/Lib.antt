@@ -1,3 +1,4 @@
 -- Classes of outlines in the arena.
+pub mod Chains
 pub mod Orders
 pub mod Directory

@@ -2,31 +2,37 @@
 // Whoever lists outlines class by class calls this crate. An outline of the class can only stand in the class, so that nothing else is searched.
 use arena::How;
 use arena::Record;
+use classes::Found;
 use outline::Outline;
 use outline::Way;
 use outlines::Listed;
 use shapes::Job;
 ghost use mathlib.Core.Path.{_≡_};
-ghost use mathlib.Core.Bool.{false};
+ghost use mathlib.Core.Bool.{true, false};
+ghost use Prim.Native.Nat.{max};
+ghost use Rattle.seeking.specs.Opened.{Seekable};
 ghost use Rattle.outline.specs.Stands.{outlineOf, wayOf};
 ghost use Rattle.outlines.specs.Listing.{Told, Holds, OutlineIn, JoinIn};
-ghost use Rattle.growing.specs.Growing.{Absent, Comes, classOf, Growable, pairOf, Pairable};
+ghost use Rattle.growing.specs.Growing.{Absent, Comes, classOf, Growable, pairOf, Pairable, Pairing, HasSizes, JoinSized};
 ghost use Rattle.growing.specs.Rows.{numberOf, sideOf, Rowable, RowWith, Rowsable, RowsWith, Facing, TooLarge};
 
-// The outline is one of the first n records', of which none before `start` has its counts.
+// A record of the class has these sizes.
+fn has_sizes(arena: &[u8], start: usize, n: usize, long: u64, wide: u64) -> bool
+    requires { ⌜ Seekable (now arena) start n long wide ⌝ }
+    ensures { λ r. ⌜ HasSizes (now (arena .entry)) start n long wide r ⌝ }
+{
+    match seeking::find_size(arena, start, n, long, wide) {
+        Found::At(_) => true,
+        Found::Nowhere => false,
+    }
+}
+
+// The outline is one of the first n records', of which none before `start` has its counts, and all from there on have: they are told apart by their sizes.
 fn holds_from(arena: &[u8], start: usize, n: usize, o: Outline, types: usize) -> bool
     requires { ⌜ Absent types (now arena) start n o ⌝ }
     ensures { λ r. ⌜ Told (Holds types (now (arena .entry)) n (outlineOf types o)) r ⌝ }
 {
-    let mut i = start;
-    while i < n {
-        let at = i;
-        i += 1;
-        if arena::same_at(arena, at, o, types) {
-            return true;
-        }
-    }
-    false
+    has_sizes(arena, start, n, o.length.0, o.width.0)
 }
 
 // Adds a build to the class from `start` on, unless it is there.
@@ -41,8 +47,29 @@ pub fn add(job: Job, arena: &mut [u8], start: usize, n: usize, build: Record) ->
     if n == arena::room(arena.len()) {
         return Listed::Full;
     }
-    classes::append(arena, start, n, build);
+    seeking::append(arena, start, n, build);
     Listed::Complete(n + 1)
+}
+
+fn larger(a: u64, b: u64) -> u64
+    ensures { λ r. ⌜ r ≡ max a b ⌝ }
+{
+    if a < b { b } else { a }
+}
+
+// A record of the class has the sizes of the join of records i and q: most joins are there already, and need not be made to be known.
+fn join_there(arena: &[u8], start: usize, n: usize, i: usize, q: usize, way: Way) -> bool
+    requires { ⌜ Pairing (now arena) start n i q ⌝ }
+    ensures { λ r. ⌜ (r ≡ true → JoinSized (now (arena .entry)) start n (wayOf way) i q) ⌝ }
+{
+    let a = arena::size_at(arena, i, 0);
+    let b = arena::size_at(arena, q, 0);
+    let c = arena::size_at(arena, i, 1);
+    let d = arena::size_at(arena, q, 1);
+    match way {
+        Way::Beside => has_sizes(arena, start, n, a + b, larger(c, d)),
+        Way::Above => has_sizes(arena, start, n, larger(a, b), c + d),
+    }
 }
 
 // Adds the join of records i and q, whose counts add up to the class's, if it fits.
@@ -58,6 +85,9 @@ pub fn add_join(
     requires { ⌜ Pairable job (now arena) start n i q ⌝ }
     ensures { λ r. ⌜ Comes job start (pairOf job (now (arena .entry)) i q) (JoinIn job (wayOf way) i q) (now (arena .entry)) n (now (arena .exit)) r ⌝ }
 {
+    if join_there(arena, start, n, i, q, way) {
+        return Listed::Complete(n);
+    }
     let a = arena::load(arena, i);
     let b = arena::load(arena, q);
     let o = a.outline.joined(b.outline, way);

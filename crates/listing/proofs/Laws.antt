@@ -1,20 +1,21 @@
 -- The queue of classes: a class comes behind, the classes that follow one, and the end of the queue. Assumes nothing.
 use mathlib.Core.Path.{_≡_, refl, sym, ap, ap₂, _∙_, subst}
 use mathlib.Core.List.{List, _++_, List·Memᴰ, Memᴰ·append-left, Memᴰ·cast}
-use Prim.Native.Nat.{ℕ, suc, _+_, _*_, _≤_, _<_}
+use Prim.Native.Nat.{ℕ, suc, _+_, _-_, _*_, _≤_, _<_}
 use native.Mathlib.Omega.{arith}
 use native.Mathlib.Decide.{ℕ-discrete, decLt}
-use lib.ListN.{length, getD, take, List·getD-eq-default}
-use lib.Seq.{getD-take}
+use lib.ListN.{length, getD, set, take, List·getD-eq-default}
+use lib.Seq.{getD-take, getD-set-same, set-set, set-getD}
 use Rattle.rules.specs.Bag.{sum}
-use Rattle.rules.specs.Box.{Way}
+use Rattle.rules.specs.Box.{Way, along, across}
 use Rattle.rules.specs.Job as rules
 use Rattle.rules.specs.Planner.{roomOf}
 use Rattle.rules.proofs.Accept.{job-typed}
 use Rattle.rules.proofs.Bags.{index}
 use Rattle.rules.proofs.Bridge.{join}
-use Rattle.rules.proofs.Classes.{NoneAfter, oneMore, turned, sum-more, some-pieces, Rising, Next, below-in, all-in}
+use Rattle.rules.proofs.Classes.{NoneAfter, oneMore, more-set, turned, sum-more, some-pieces, one-less, Rising, Next, below-in, all-in}
 use Rattle.rules.proofs.Halves.{In, Able, whole-in, whole-over, more-at}
+use Rattle.rules.proofs.Outlines.{counts-length}
 use Rattle.rules.proofs.Tally.{sum-plus}
 use Rattle.shapes.specs.declared.Job.{Job}
 use Rattle.shapes.specs.Handed.{numbersOf}
@@ -23,16 +24,19 @@ use Rattle.outline.specs.Stands.{jobFor, outlineOf, LeastOf, leastBy}
 use Rattle.outline.proofs.Laws.{types-count, demand-at, least-of, noPiece}
 use Rattle.arena.specs.Records.{recordAt, linkAt}
 use Rattle.arena.proofs.Laws.{recs-same}
-use Rattle.classes.specs.Directory.{endLink, Begins, Turn, Class, Entered}
-use Rattle.classes.proofs.Laws.{class-at, next-begins}
+use Rattle.classes.specs.Directory.{endLink, Begins, Turn, Class, lessOf, Lacking, Entered, countsAt, Enterable}
+use Rattle.classes.proofs.Laws.{class-at, next-begins, directory-kept}
+use Rattle.sorting.specs.Merging.{BothOrders}
 use Rattle.outlines.specs.declared.Listed.{Listed}
 use Rattle.outlines.specs.Listing.{recsIn, outlinesIn, outlinesOf, noOutline, Sound, Held, Ready, AllListed}
 use Rattle.outlines.proofs.Laws.{length-outlines, outline-at, grown-self, grown-le, grown-then, outlines-stay}
-use Rattle.growing.specs.Growing.{Came}
+use Rattle.growing.specs.Growing.{Came, Growing}
 use Rattle.growing.proofs.Laws.{nothing-grows}
-use Rattle.pairing.specs.Pairs.{outlineAt, keyAt, Sought, PairsBefore}
+use Rattle.pairing.specs.Pairs.{outlineAt, keyAt, AbleAt, IdleAt, Idle, Standing}
+use Rattle.halving.specs.Halves.{Sought, PairsBefore}
 use Rattle.pairing.proofs.Laws.{build-at, key-length}
-use Rattle.listing.specs.Queue.{piecesAt, WholeIn, BelowIn, NextIn, Classed, Queued, HalfAt, Followed, Follows, Target, Source}
+use Rattle.listing.specs.declared.Halves.{Halves}
+use Rattle.listing.specs.Queue.{piecesAt, WholeIn, BelowIn, NextIn, Classed, Queued, HalfAt, HalvesAt, Passing, Passed, Followed, Follows, Target, Source}
 
 -- what holds of a list holds where others come behind
 whole-more : (job : Job) {c : List ℕ} (l b : List rules.Outline) → WholeIn job c l → WholeIn job c (l ++ b)
@@ -41,6 +45,13 @@ whole-more job l b f o d e = Memᴰ·append-left b (f o d e)
 -- the pieces of a record
 some-at : {job : Job} {s : List ℕ} {n : ℕ} → Ready job s n → (i : ℕ) → i < n → 1 ≤ piecesAt job s i
 some-at {job} r i h = some-pieces (job-typed (numbersOf job)) (build-at r i h)
+
+-- one piece less than one piece more
+less-more : (t : ℕ) (a c : List ℕ) → oneMore t a ≡ c → t < length a → a ≡ lessOf c t
+less-more t a c e l =
+    let f = sym e ∙ more-set t a in
+    let g : getD c t 0 - 1 ≡ getD a t 0 = omega (arith, ap (λ v. getD v t 0) f, getD-set-same a t (suc (getD a t 0)) 0 l) in
+    sym (ap (λ v. set c t v) g ∙ ap (λ v. set v t (getD a t 0)) f ∙ set-set a t (suc (getD a t 0)) (getD a t 0) ∙ set-getD a t 0)
 
 -- the same records, so that the list is the same
 module _ (job : Job) (s t : List ℕ) (n : ℕ) (len : length t ≡ length s) (same : (i : ℕ) → i < n → recordAt t i ≡ recordAt s i) where
@@ -78,21 +89,14 @@ module _ {job : Job} {least : Least} {s : List ℕ} {start half : ℕ} {c : List
       go (yes z) = z
       go (no z) = absurd (omega (arith, y, ap sum (g .growing .counts i (omega arith) x)))
 
-  -- with at most half of the pieces it stands before half
-  part-half : (i : ℕ) → i < start → 2 * piecesAt job s i ≤ sum c → i < half
-  part-half i x y = go (decLt i half)
-    where
-      go : Dec (i < half) → i < half
-      go (yes z) = z
-      go (no z) = absurd (beyond (ℕ-discrete half i))
-        where
-          beyond : Dec (half ≡ i) → ⊥
-          beyond (yes e) = omega (arith, h .half-at .beyond (omega arith), y, ap (piecesAt job s) e)
-          beyond (no e) = omega (arith, h .half-at .beyond (omega arith), y, h .classed .rising half i (omega arith) x)
-
   joins : (w : Way) (a b : rules.Outline) → List·Memᴰ a list → Able (λ v. leastBy v least) (turned w) a → List·Memᴰ b list → rules.plus (a .counts) (b .counts) ≡ c → 2 * rules.pieces a ≤ sum c → rules.Fits (jobFor job) (join w a b) → List·Memᴰ (join w a b) list
   joins w a b ma able mb e two fit = go (index noOutline ma) (index noOutline mb)
     where
+      -- it stands before half, or need not be tried
+      tried : (i q : ℕ) → i < start → q < start → 2 * piecesAt job s i ≤ sum c → AbleAt job least s i w → rules.Fits (jobFor job) (join w (outlineAt job s i) (outlineAt job s q)) → (i < half → List·Memᴰ (join w a b) list) → Dec (i < half) → List·Memᴰ (join w a b) list
+      tried i q si sq few able-i f r (yes x) = r x
+      tried i q si sq few able-i f r (no x) = absurd (h .half-at .beyond i (omega arith) si few w able-i (outlineAt job s q) (build-at (h .classed .ready) q sq) f)
+
       go : (i : ℕ) × (i < length list) × (getD list i noOutline ≡ a) → (q : ℕ) × (q < length list) × (getD list q noOutline ≡ b) → List·Memᴰ (join w a b) list
       go (i, li, ei) (q, lq, eq) =
           let hi : i < n = omega (arith, length-outlines job t n) in
@@ -105,11 +109,12 @@ module _ {job : Job} {least : Least} {s : List ℕ} {start half : ℕ} {c : List
           sym (sum-plus (keyAt job t i) (keyAt job t q) (key-length ready i hi ∙ sym (key-length ready q hq))) ∙ ap sum (ap₂ rules.plus ki kq ∙ e) in
           let si : i < start = part-old i hi (omega (arith, p, some-at ready q hq)) in
           let sq : q < start = part-old q hq (omega (arith, p, some-at ready i hi)) in
-          let half-i : i < half = part-half i si (omega (arith, two, ap sum ki, ap sum (old-key i si))) in
+          let few : 2 * piecesAt job s i ≤ sum c = omega (arith, two, ap sum ki, ap sum (old-key i si)) in
           let able-i = subst (Able (λ v. leastBy v least) (turned w)) (sym oi ∙ ap (λ r. outlineOf (job .count) (r .outline)) (g .kept .records i si)) able in
           let pair = ap₂ rules.plus (sym (old-key i si) ∙ ki) (sym (old-key q sq) ∙ kq) ∙ e in
           let j = ap₂ (join w) ei eq in
-          Memᴰ·cast (sym j) (g .grown .has i half-i w q sq pair able-i (subst (rules.Fits (jobFor job)) (sym j) fit))
+          let old : (k : ℕ) → k < start → outlineAt job t k ≡ outlineAt job s k = λ k x. ap (λ r. outlineOf (job .count) (r .outline)) (g .kept .records k x) in
+          tried i q si sq few able-i (subst (rules.Fits (jobFor job)) (ap₂ (join w) (sym oi ∙ old i si) (sym oq ∙ old q sq)) fit) (λ x. Memᴰ·cast (sym j) (g .grown .has i x w q sq pair able-i (subst (rules.Fits (jobFor job)) (sym j) fit))) (decLt i half)
 
   whole-list : WholeIn job c list
   whole-list = whole-in (job-typed (numbersOf job)) (λ v. leastBy v least) (λ w. least-of job (h .classed .ready .range) w least (h .least-of)) list (g .grown .held .sound .only) c (h .two)
@@ -201,7 +206,27 @@ sought h f = record {
   ready = h .classed .ready;
   growing = nothing-grows (h .classed .directory) f;
   turn = h .half-at .turn;
+  few = h .half-at .few;
 }
+
+-- a build less a piece is a build, with fewer pieces, and so it is listed: where its class is not there, no build has the counts
+pub target-none : {job : Job} {least : Least} {s : List ℕ} {n half : ℕ} {c : List ℕ} → Target job least s n half c → Lacking (job .count) s n c → Followed job (WholeIn job c) (sum c) s n s n
+target-none {job} {s = s} {n = n} {c = c} h k = followed-self (h .classed) (λ o b e. absurd (none o b e))
+  where
+    none : (o : rules.Outline) → rules.Build (jobFor job) o → o .counts ≡ c → ⊥
+    none o b e =
+        let two = h .two in
+        let r = one-less (job-typed (numbersOf job)) b (k .type) (omega (arith, k .has, ap (λ l. getD l (k .type) 0) e)) (omega (arith, ap sum e)) in
+        let d = r .counts ∙ e in
+        let l = counts-length (r .build) ∙ types-count job (h .classed .ready .range) in
+        let z : sum c ≡ suc (rules.pieces (r .outline)) = ap sum (sym d) ∙ sum-more (k .type) (r .outline .counts) (omega (arith, k .among)) in
+        here (r .outline) d l (index noOutline (h .below (r .outline) (r .build) (omega arith)))
+      where
+        here : (a : rules.Outline) → oneMore (k .type) (a .counts) ≡ c → length (a .counts) ≡ job .count → (i : ℕ) × (i < length (outlinesIn job s n)) × (getD (outlinesIn job s n) i noOutline ≡ a) → ⊥
+        here a d l (i, li, ei) =
+            let x : i < n = omega (arith, length-outlines job s n) in
+            let f = ap (λ (u : rules.Outline). u .counts) (sym (outline-at (job .count) s n i x) ∙ ei) in
+            k .none i x (f ∙ less-more (k .type) (a .counts) c d (omega (arith, k .among)))
 
 -- a class that is there is whole
 pub target-there : {job : Job} {least : Least} {s : List ℕ} {n half : ℕ} {c : List ℕ} → Target job least s n half c → (p : ℕ) → Class (job .count) s n p → keyAt job s p ≡ c → Followed job (WholeIn job c) (sum c) s n s n
@@ -230,7 +255,7 @@ module _ {job : Job} {least : Least} {s : List ℕ} {n half p : ℕ} (h : Source
     two = omega (arith, more-sum, some-at (h .classed .ready) p (h .here));
     below = subst (λ k. BelowIn job k (outlinesIn job s n)) (sym more-sum) (h .below);
     top = λ q x. omega (arith, more-sum, h .top q x);
-    half-at = subst (λ k. HalfAt (job .count) s n k half) (sym more-sum) (h .half-at);
+    half-at = subst (λ k. HalfAt job least s n k half) (sym more-sum) (h .half-at);
   }
 
   pub more-follows : (c : List ℕ) → c ≡ oneMore t (keyAt job s p) → (u : List ℕ) (r : Listed) → Follows job (WholeIn job c) (sum c) s n u r → Follows job (WholeIn job (oneMore t (keyAt job s p))) (suc (piecesAt job s p)) s n u r
@@ -254,12 +279,31 @@ module _ {job : Job} {P : List rules.Outline → Type 0} {k : ℕ} {s t : List �
       go (yes x) y = λ q z e. h .begins x q z (sym (key-follows q (omega arith)) ∙ e ∙ key-follows p x)
       go (no x) y = let e : n ≡ p = omega (arith, h .upto) in subst (Begins (job .count) t) e (g .turn (omega arith))
 
-  pub half-follows : (half : ℕ) → 1 ≤ k → HalfAt (job .count) s n k half → HalfAt (job .count) t m k half
-  half-follows half one h = record { turn = turn-follows half (h .turn); beyond = λ x. go (decLt half n) x }
+  -- a record that need not be tried need not be
+  idle-follows : (least : Least) (q : ℕ) → q < n → (w : Way) → IdleAt job least s q w → IdleAt job least t q w
+  idle-follows least q x w f =
+      let e = ap (λ r. outlineOf (job .count) (r .outline)) (g .records q x) in
+      λ able b build fit. f (subst (Able (λ v. leastBy v least) (turned w)) e able) b build (subst (λ o. rules.Fits (jobFor job) (join w o b)) e fit)
+
+  pub half-follows : {least : Least} {half : ℕ} → 1 ≤ k → HalfAt job least s n k half → HalfAt job least t m k half
+  half-follows {least} {half} one h = record {
+    turn = turn-follows half (h .turn);
+    few = λ q x. omega (arith, h .few q x, ap sum (key-follows q (omega (arith, h .turn .upto))));
+    beyond = λ q x y z. go q x y z (decLt q n);
+  }
     where
-      go : Dec (half < n) → half < m → k < 2 * piecesAt job t half
-      go (yes x) y = omega (arith, h .beyond x, ap sum (key-follows half x))
-      go (no x) y = omega (arith, g .new half (omega arith) y)
+      go : (q : ℕ) → half ≤ q → q < m → 2 * piecesAt job t q ≤ k → Dec (q < n) → (w : Way) → IdleAt job least t q w
+      go q x y z (yes v) w = idle-follows least q v w (h .beyond q x v (omega (arith, z, ap sum (key-follows q v))) w)
+      go q x y z (no v) w = absurd (omega (arith, z, g .new q (omega arith) y))
+
+  pub halves-follow : {least : Least} {most more : ℕ} {h : Halves} → most ≤ more → HalvesAt job least s n most h → HalvesAt job least t m more h
+  halves-follow {least} l h = record {
+    turn = turn-follows _ (h .turn);
+    tried-turn = turn-follows _ (h .tried-turn);
+    upto = h .upto;
+    few = λ q x. omega (arith, h .few q x, ap sum (key-follows q (omega (arith, h .turn .upto))));
+    idle = λ q x y w. idle-follows least q (omega (arith, h .turn .upto)) w (h .idle q x y w);
+  }
 
 -- the types from `after` on have been followed, and class p has none of them
 pub record Following (job : Job) (least : Least) (s : List ℕ) (n half p : ℕ) (t : List ℕ) (m after : ℕ) : Type 0 where
@@ -289,7 +333,7 @@ module _ {job : Job} {least : Least} {s : List ℕ} {n half p : ℕ} (h : Source
           here = omega (arith, h .here, grows-by (g .followed));
           below = λ o b x. in-follows (g .followed) o (h .below o b (omega arith));
           top = λ q x. top q x (decLt q n);
-          half-at = subst (λ v. HalfAt (job .count) t m v half) k (half-follows (g .followed) half (omega arith) (h .half-at));
+          half-at = subst (λ v. HalfAt job least t m v half) k (half-follows (g .followed) (omega arith) (h .half-at));
         }
       where
         top : (q : ℕ) → q < m → Dec (q < n) → piecesAt job t q ≤ suc (piecesAt job t p)
@@ -324,6 +368,63 @@ module _ {job : Job} {least : Least} {s : List ℕ} {n half p : ℕ} (h : Source
     pub following-end : after ≡ 0 → Followed job (NextIn job (keyAt job s p)) (suc (piecesAt job s p)) s n t m
     following-end e = followed-with (g .followed) (λ v hi no-one. g .followed .grown .has v (omega arith) hi no-one)
 
+-- nothing is passed
+pub no-halves : (job : Job) (least : Least) (s : List ℕ) (n most : ℕ) → HalvesAt job least s n most (record { passed = 0; tried = 0 })
+no-halves job least s n most =
+    let t : Turn (job .count) s n 0 = record { upto = omega arith; begins = λ x q y. absurd (omega arith) } in
+    record { turn = t; tried-turn = t; upto = omega arith; few = λ q x. absurd (omega arith); idle = λ q x y. absurd (omega arith) }
+
+-- a class with at most half of the pieces is passed
+module _ {job : Job} {least : Least} {s : List ℕ} {n most : ℕ} {from : Halves} (g : Passing job least s n most from) {h : Halves} (k : HalvesAt job least s n most h) (some : h .passed < n) where
+  pub passed-class : Class (job .count) s n (h .passed)
+  passed-class = class-at (g .directory) some (k .turn .begins some)
+
+  pub passed-standing : Standing job least s (h .passed)
+  passed-standing = record { least-of = g .least-of; range = g .range; upto = n; room = g .directory .room; class = passed-class }
+
+  module _ (half : 2 * piecesAt job s (h .passed) ≤ most) where
+    next-few : (q : ℕ) → q < linkAt s (h .passed) endLink → Dec (q < h .passed) → 2 * piecesAt job s q ≤ most
+    next-few q x (yes y) = k .few q y
+    next-few q x (no y) = omega (arith, ap sum (passed-class .same q (omega arith) x))
+
+    next-turn : Turn (job .count) s n (linkAt s (h .passed) endLink)
+    next-turn = record { upto = passed-class .ends; begins = next-begins (g .directory) passed-class }
+
+    -- it joins
+    pub halves-join : HalvesAt job least s n most (record { passed = linkAt s (h .passed) endLink; tried = linkAt s (h .passed) endLink })
+    halves-join = record { turn = next-turn; tried-turn = next-turn; upto = omega arith; few = λ q x. next-few q x (decLt q (h .passed)); idle = λ q x y. absurd (omega arith) }
+
+    -- it does not
+    pub halves-idle : Idle job least s (h .passed) along × Idle job least s (h .passed) across → HalvesAt job least s n most (record { passed = linkAt s (h .passed) endLink; tried = h .tried })
+    halves-idle f = record {
+      turn = next-turn;
+      tried-turn = k .tried-turn;
+      upto = omega (arith, k .upto, passed-class .some);
+      few = λ q x. next-few q x (decLt q (h .passed));
+      idle = λ q x y. go q x y (decLt q (h .passed));
+    }
+      where
+        go : (q : ℕ) → h .tried ≤ q → q < linkAt s (h .passed) endLink → Dec (q < h .passed) → (w : Way) → IdleAt job least s q w
+        go q x y (yes z) w = k .idle q x z w
+        go q x y (no z) along = f .0 q (omega arith) y
+        go q x y (no z) across = f .1 q (omega arith) y
+
+-- where all classes with at most half of the pieces have been passed, those that join stand before `tried`
+half-at : {job : Job} {least : Least} {s : List ℕ} {n most : ℕ} {halves : Halves} → Classed job s n → Passed job least s n most halves → HalfAt job least s n most (halves .tried)
+half-at {job} {least} {s} {n} {most} {halves} c f = record {
+  turn = f .halves .tried-turn;
+  few = λ q x. f .halves .few q (omega (arith, f .halves .upto));
+  beyond = λ q x y z. go q x y z (decLt q (halves .passed));
+}
+  where
+    go : (q : ℕ) → halves .tried ≤ q → q < n → 2 * piecesAt job s q ≤ most → Dec (q < halves .passed) → (w : Way) → IdleAt job least s q w
+    go q x y z (yes v) w = f .halves .idle q x v w
+    go q x y z (no v) w = absurd (late (ℕ-discrete (halves .passed) q))
+      where
+        late : Dec (halves .passed ≡ q) → ⊥
+        late (yes e) = omega (arith, f .beyond (omega arith), z, ap (piecesAt job s) e)
+        late (no e) = omega (arith, f .beyond (omega arith), z, c .rising (halves .passed) q (omega arith) y)
+
 -- the queue
 module _ {job : Job} {s : List ℕ} {n p : ℕ} (h : Queued job s n p) where
   outline-in : (q : ℕ) → q < n → getD (outlinesIn job s n) q noOutline ≡ outlineAt job s q
@@ -340,8 +441,8 @@ module _ {job : Job} {s : List ℕ} {n p : ℕ} (h : Queued job s n p) where
       subst (λ c. WholeIn job (oneMore t c) (outlinesIn job s n)) (sym e) (h .next q y t (omega (arith, types-count job (h .classed .ready .range))) (subst (NoneAfter t) e no-one))
 
   -- class p comes next: all builds with no more pieces are listed
-  pub queue-source : {least : Least} {half k : ℕ} → LeastOf job least → p < n → k ≡ piecesAt job s p → HalfAt (job .count) s n (k + 1) half → Source job least s n half p
-  queue-source {half = half} {k = k} l x e f =
+  pub queue-source : {least : Least} {halves : Halves} {k : ℕ} → LeastOf job least → p < n → k ≡ piecesAt job s p → Passed job least s n (k + 1) halves → Source job least s n (halves .tried) p
+  queue-source {least} {halves} {k} l x e f =
       let m : k + 1 ≡ suc (piecesAt job s p) = omega arith in
       record {
         least-of = l;
@@ -350,7 +451,7 @@ module _ {job : Job} {s : List ℕ} {n p : ℕ} (h : Queued job s n p) where
         below = subst (λ v. BelowIn job (suc v) (outlinesIn job s n)) (ap rules.pieces (outline-in p x))
             (below-in (job-typed (numbersOf job)) (In (outlinesIn job s n)) noOutline (outlinesIn job s n) (λ o y. y) (h .classed .starts) in-order p (λ q y. next-in q (omega arith) y));
         top = h .top x;
-        half-at = subst (λ v. HalfAt (job .count) s n v half) m f;
+        half-at = subst (λ v. HalfAt job least s n v (halves .tried)) m (half-at (h .classed) f);
       }
 
   -- and is followed
@@ -379,6 +480,12 @@ module _ {job : Job} {s : List ℕ} {n p : ℕ} (h : Queued job s n p) where
           let f = key-follows g q (omega (arith, k .ends)) ∙ k .same q (omega arith) y in
           subst (λ c. NextIn job c (outlinesIn job t m)) (sym f) (g .grown .has)
 
+  -- what has been passed is passed for the class that comes next
+  pub queue-halves : {least : Least} {halves : Halves} {k : ℕ} {t : List ℕ} {m : ℕ} → p < n → k ≡ piecesAt job s p → HalvesAt job least s n (k + 1) halves → Followed job (NextIn job (keyAt job s p)) (suc (piecesAt job s p)) s n t m → linkAt s p endLink < m → HalvesAt job least t m (suc (piecesAt job t (linkAt s p endLink))) halves
+  queue-halves x e f g y =
+      let k = class-at (h .classed .directory) x (h .turn .begins x) in
+      halves-follow g (omega (arith, g .classed .rising p (linkAt s p endLink) (k .some) y, ap sum (key-follows g p x))) f
+
   -- the queue is at its end
   pub queue-end : (entry : List ℕ) → length s ≡ length entry → n ≤ p → AllListed job entry s n
   queue-end entry len x = record {
@@ -391,3 +498,21 @@ module _ {job : Job} {s : List ℕ} {n p : ℕ} (h : Queued job s n p) where
     };
     valid = h .classed .ready .held .sound .valid;
   }
+
+-- a class that grew is put in order, and entered
+module _ {types : ℕ} {s t : List ℕ} {start n : ℕ} {c : List ℕ} (g : Growing types s start n c) (room : n ≤ roomOf (length s)) (some : start < n) (b : BothOrders start n s t) where
+  counts-ordered : (q : ℕ) → countsAt types t q ≡ countsAt types s q
+  counts-ordered q = ap (λ u. take types (u .outline .counts)) (b .records q)
+
+  pub enterable : Enterable types t start n c
+  enterable = record {
+    directory = directory-kept (g .directory) (g .begins) (b .kept);
+    room = omega (arith, ap roomOf (b .kept .same-length));
+    some = some;
+    before = λ q h e. g .before q h (sym (counts-ordered q) ∙ e);
+    counts = λ q x y. counts-ordered q ∙ g .counts q x y;
+    orders = b .orders;
+  }
+
+  pub ordered-entered : {u : List ℕ} → Entered types n t u → Entered types n s u
+  ordered-entered e = record { same-length = e .same-length ∙ b .kept .same-length; records = λ i. e .records i ∙ b .records i; directory = e .directory }

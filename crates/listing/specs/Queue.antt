@@ -4,18 +4,21 @@ use mathlib.Core.List.{List}
 use Prim.Native.Nat.{ℕ, suc, _*_, _≤_, _<_}
 use lib.ListN.{length, getD}
 use Rattle.rules.specs.Bag.{sum}
+use Rattle.rules.specs.Box.{Way}
 use Rattle.rules.specs.Job as rules
 use Rattle.rules.proofs.Classes.{Below, NoneAfter, oneMore}
 use Rattle.rules.proofs.Halves.{In, Whole}
 use Rattle.shapes.specs.declared.Job.{Job}
+use Rattle.shapes.specs.Handed.{JobInRange}
 use Rattle.outline.specs.declared.Least.{Least}
 use Rattle.outline.specs.Stands.{jobFor, LeastOf}
 use Rattle.arena.specs.Records.{recordAt}
-use Rattle.classes.specs.Directory.{countsAt, Begins, Turn, Directory}
+use Rattle.classes.specs.Directory.{Begins, Turn, Directory}
 use Rattle.outlines.specs.declared.Listed.{Listed}
 use Rattle.outlines.specs.declared.Listed.the-variants.{Complete, Full}
 use Rattle.outlines.specs.Listing.{outlinesIn, Ready, StartsIn, Grown, TooMany}
-use Rattle.pairing.specs.Pairs.{keyAt}
+use Rattle.pairing.specs.Pairs.{keyAt, IdleAt}
+use Rattle.listing.specs.declared.Halves.{Halves}
 
 -- the pieces of record i
 abbrev pub piecesAt : Job → List ℕ → ℕ → ℕ
@@ -47,10 +50,30 @@ pub record Queued (job : Job) (s : List ℕ) (n p : ℕ) : Type 0 where
   pub top : p < n → (q : ℕ) → q < n → piecesAt job s q ≤ suc (piecesAt job s p)
   pub next : (q : ℕ) → q < p → NextIn job (keyAt job s q) (outlinesIn job s n)
 
--- from half on, classes have more than half of so many pieces
-pub record HalfAt (types : ℕ) (s : List ℕ) (n most half : ℕ) : Type 0 where
-  pub turn : Turn types s n half
-  pub beyond : half < n → most < 2 * sum (countsAt types s half)
+-- the records before half have at most half of so many pieces, and no other with at most half of them need be tried as a first half
+pub record HalfAt (job : Job) (least : Least) (s : List ℕ) (n most half : ℕ) : Type 0 where
+  pub turn : Turn (job .count) s n half
+  pub few : (q : ℕ) → q < half → 2 * piecesAt job s q ≤ most
+  pub beyond : (q : ℕ) → half ≤ q → q < n → 2 * piecesAt job s q ≤ most → (w : Way) → IdleAt job least s q w
+
+-- the classes before `passed` have at most half of so many pieces; of these no record from `tried` on need be tried
+pub record HalvesAt (job : Job) (least : Least) (s : List ℕ) (n most : ℕ) (h : Halves) : Type 0 where
+  pub turn : Turn (job .count) s n (h .passed)
+  pub tried-turn : Turn (job .count) s n (h .tried)
+  pub upto : h .tried ≤ h .passed
+  pub few : (q : ℕ) → q < h .passed → 2 * piecesAt job s q ≤ most
+  pub idle : (q : ℕ) → h .tried ≤ q → q < h .passed → (w : Way) → IdleAt job least s q w
+
+-- to be gone on with, in an arena of classes; and gone on with as far as it goes
+pub record Passing (job : Job) (least : Least) (s : List ℕ) (n most : ℕ) (h : Halves) : Type 0 where
+  pub least-of : LeastOf job least
+  pub range : JobInRange job
+  pub directory : Directory (job .count) s n
+  pub halves : HalvesAt job least s n most h
+
+pub record Passed (job : Job) (least : Least) (s : List ℕ) (n most : ℕ) (h : Halves) : Type 0 where
+  pub halves : HalvesAt job least s n most h
+  pub beyond : h .passed < n → most < 2 * piecesAt job s (h .passed)
 
 -- classes come behind: their records have k pieces, those before stay, and P holds then
 pub record Followed (job : Job) (P : List rules.Outline → Type 0) (k : ℕ) (s : List ℕ) (n : ℕ) (t : List ℕ) (m : ℕ) : Type 0 where
@@ -72,7 +95,7 @@ pub record Target (job : Job) (least : Least) (s : List ℕ) (n half : ℕ) (c :
   pub two : 2 ≤ sum c
   pub below : BelowIn job (sum c) (outlinesIn job s n)
   pub top : (q : ℕ) → q < n → piecesAt job s q ≤ sum c
-  pub half-at : HalfAt (job .count) s n (sum c) half
+  pub half-at : HalfAt job least s n (sum c) half
 
 -- class p, all builds up to whose pieces are listed
 pub record Source (job : Job) (least : Least) (s : List ℕ) (n half p : ℕ) : Type 0 where
@@ -81,7 +104,7 @@ pub record Source (job : Job) (least : Least) (s : List ℕ) (n half p : ℕ) : 
   pub here : p < n
   pub below : BelowIn job (suc (piecesAt job s p)) (outlinesIn job s n)
   pub top : (q : ℕ) → q < n → piecesAt job s q ≤ suc (piecesAt job s p)
-  pub half-at : HalfAt (job .count) s n (suc (piecesAt job s p)) half
+  pub half-at : HalfAt job least s n (suc (piecesAt job s p)) half
 
 -- single pieces: all that fit alone, each a class of its own
 pub record Singles (job : Job) (s : List ℕ) (n : ℕ) : Type 0 where

@@ -1,7 +1,7 @@
 // All outlines of a job, each once, as records of the lent arena, class by class: a class is all outlines with the same counts.
 // The planner calls `list_outlines`. Its contract speaks of outlines and of the arena's records alone, so that what is inside can be exchanged.
 // The arena's own classes are the queue: each is followed by those with one piece more, of the last type that it has or of a later one, so that no counts are met twice.
-// A class is made of pairs of classes that add up to its counts: that is the crate `pairing`.
+// A class is made of pairs of classes that add up to its counts: that is the crate `halving`.
 use arena::How;
 use arena::Record;
 use classes::Found;
@@ -9,6 +9,7 @@ use outline::Least;
 use outlines::Listed;
 use shapes::Job;
 use shapes::TYPES_MOST;
+ghost use mathlib.Core.Path.{_≡_};
 ghost use Prim.Native.Nat.{_<_, _≤_, suc};
 ghost use lib.ListN.{length, take};
 ghost use Rattle.rules.specs.Bag.{sum};
@@ -16,34 +17,49 @@ ghost use Rattle.rules.specs.Limits.{typesMost};
 ghost use Rattle.rules.proofs.Classes.{oneMore};
 ghost use Rattle.rules.specs.Planner.{roomOf};
 ghost use Rattle.outline.specs.Stands.{LeastOf};
-ghost use Rattle.classes.specs.Directory.{Directory, Turn, Entered};
+ghost use Rattle.weighing.specs.Weights.{weighed};
+ghost use Rattle.classes.specs.Directory.{Directory, Entered};
 ghost use Rattle.outlines.specs.Listing.{StartsIn, SingleIn, Lists};
 ghost use Rattle.growing.specs.Growing.{Growing};
-ghost use Rattle.pairing.specs.Pairs.{keyAt, Sought};
-ghost use Rattle.listing.specs.Queue.{piecesAt, WholeIn, NextIn, HalfAt, Queued, Follows, Target, Source, SinglesTo, SinglesGrow};
+ghost use Rattle.pairing.specs.Pairs.{keyAt};
+ghost use Rattle.halving.specs.Halves.{Sought};
+ghost use Rattle.listing.specs.Queue.{piecesAt, WholeIn, NextIn, Passing, Passed, Queued, Follows, Target, Source, SinglesTo, SinglesGrow};
 ghost use Rattle.shapes.specs.Handed.{JobInRange};
 
-// From a class on, the first with more than half of `most` pieces.
-fn half_of(arena: &[u8], from: usize, n: usize, most: usize, types: usize) -> usize
-    requires { ⌜ Directory types (now arena) n × Turn types (now arena) n from × (types ≤ typesMost) ⌝ }
-    ensures { λ r. ⌜ HalfAt types (now (arena .entry)) n most r ⌝ }
-{
-    let mut half = from;
-    while half < n {
-        if most < 2 * arena::pieces_at(arena, half, types) {
-            return half;
-        }
-        half = classes::end_of(arena, half);
-    }
-    half
+// Of the classes before `passed`, which have at most half of the pieces that classes now get, those that join at all stand before `tried`.
+pub struct Halves {
+    pub passed: usize,
+    pub tried: usize,
 }
 
-// Enters the class that grew from `start` on, if there is anything in it.
+// Goes on to the first class with more than half of `most` pieces. Whether a class joins at all is asked once, here: on a strip hardly any does.
+fn half_of(job: Job, arena: &[u8], from: Halves, n: usize, most: usize, least: Least) -> Halves
+    requires { ⌜ Passing job least (now arena) n most from ⌝ }
+    ensures { λ r. ⌜ Passed job least (now (arena .entry)) n most r ⌝ }
+{
+    let types = job.count as usize;
+    let mut passed = from.passed;
+    let mut tried = from.tried;
+    while passed < n {
+        let at = passed;
+        if most < 2 * arena::pieces_at(arena, at, types) {
+            return Halves { passed, tried };
+        }
+        passed = classes::end_of(arena, at);
+        if pairing::joins(job, arena, at, least) {
+            tried = passed;
+        }
+    }
+    Halves { passed, tried }
+}
+
+// Puts both orders over the class that grew from `start` on, and enters it, if there is anything in it.
 fn close_class(arena: &mut [u8], start: usize, n: usize, counts: [u8; TYPES_MOST], types: usize)
     requires { ⌜ Growing types (now arena) start n (take types counts) × (n ≤ roomOf (length (now arena))) × (types ≤ typesMost) ⌝ }
     ensures { λ _. ⌜ Entered types n (now (arena .entry)) (now (arena .exit)) ⌝ }
 {
     if start < n {
+        sorting::order_class(arena, start, n);
         classes::enter(arena, start, n, counts, types);
     }
 }
@@ -54,12 +70,13 @@ fn new_class(
     start: usize,
     half: usize,
     counts: [u8; TYPES_MOST],
+    weight: u64,
     least: Least,
 ) -> Listed
-    requires { ⌜ Target job least (now arena) start half (take (job .count) counts) × Sought job least (now arena) start half (take (job .count) counts) ⌝ }
+    requires { ⌜ Target job least (now arena) start half (take (job .count) counts) × Sought job least (now arena) start half (take (job .count) counts) × (weight ≡ weighed 0 (take (job .count) counts)) ⌝ }
     ensures { λ r. ⌜ Follows job (WholeIn job (take (job .count) counts)) (sum (take (job .count) counts)) (now (arena .entry)) start (now (arena .exit)) r ⌝ }
 {
-    match pairing::grow_class(job, arena, start, half, counts, least) {
+    match halving::grow_class(job, arena, start, half, counts, weight, least) {
         Listed::Full => Listed::Full,
         Listed::Complete(n) => {
             close_class(arena, start, n, counts, job.count as usize);
@@ -68,7 +85,7 @@ fn new_class(
     }
 }
 
-// All outlines with these counts.
+// All outlines with these counts. A build less a piece is a build: where a class with one piece less is not there, no build has them.
 fn add_target(
     job: Job,
     arena: &mut [u8],
@@ -80,9 +97,16 @@ fn add_target(
     requires { ⌜ Target job least (now arena) n half (take (job .count) counts) ⌝ }
     ensures { λ r. ⌜ Follows job (WholeIn job (take (job .count) counts)) (sum (take (job .count) counts)) (now (arena .entry)) n (now (arena .exit)) r ⌝ }
 {
-    match classes::find(arena, n, counts, job.count as usize) {
+    let types = job.count as usize;
+    let weight = weighing::weight_of(counts, types);
+    match classes::find_weighed(arena, n, counts, types, weight) {
         Found::At(_) => Listed::Complete(n),
-        Found::Nowhere => new_class(job, arena, n, half, counts, least),
+        Found::Nowhere => {
+            if classes::lacks_less(arena, n, counts, types, weight) {
+                return Listed::Complete(n);
+            }
+            new_class(job, arena, n, half, counts, weight, least)
+        }
     }
 }
 
@@ -138,19 +162,17 @@ fn list_joins(job: Job, arena: &mut [u8], singles: usize, least: Least) -> Liste
 {
     let types = job.count as usize;
     let mut n = singles;
-    let mut half = 0;
+    let mut halves = Halves {
+        passed: 0,
+        tried: 0,
+    };
     let mut p = 0;
     while p < n {
         let at = p;
-        half = half_of(
-            arena,
-            half,
-            n,
-            arena::pieces_at(arena, at, types) + 1,
-            types,
-        );
+        let most = arena::pieces_at(arena, at, types) + 1;
+        halves = half_of(job, arena, halves, n, most, least);
         p = classes::end_of(arena, at);
-        match add_next(job, arena, n, half, at, least) {
+        match add_next(job, arena, n, halves.tried, at, least) {
             Listed::Full => {
                 return Listed::Full;
             }

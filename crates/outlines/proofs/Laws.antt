@@ -22,7 +22,7 @@ use Rattle.shapes.specs.declared.Job.{Job}
 use Rattle.shapes.specs.Handed.{numbersOf, JobInRange}
 use Rattle.outline.specs.declared.Outline.{Outline}
 use Rattle.outline.specs.declared.Way as code
-use Rattle.outline.specs.Stands.{jobFor, pieceAt, outlineOf, wayOf, Few, Joins, Alone, twoBytes}
+use Rattle.outline.specs.Stands.{jobFor, pieceAt, outlineOf, wayOf, Few, Joins, Alone, Sized, twoBytes}
 use Rattle.outline.proofs.Laws.{count-types, fits-few, single-at}
 use Rattle.arena.specs.declared.How.the-variants.{Piece, Joined}
 use Rattle.arena.specs.declared.Record.{Record}
@@ -84,13 +84,17 @@ module _ (job : Job) where
 
 -- adding a record
 module _ (job : Job) (s : List ℕ) (n : ℕ) (r : Record) (a : Addable job s n r) where
-  pub storable : (n ≡ roomOf (length s) → ⊥) → Storable s n r
-  storable h =
+  pub build-sized : Sized (r .outline)
+  build-sized =
       let f = made-kept (a .build) in
       let z = a .ready .range .numbers in
+      record { long = omega (arith, f .long, z .long .high); wide = omega (arith, f .wide, z .wide .high) }
+
+  pub storable : (n ≡ roomOf (length s) → ⊥) → Storable s n r
+  storable h =
       record {
         room = omega (arith, a .ready .held .room);
-        sized = record { long = omega (arith, f .long, z .long .high); wide = omega (arith, f .wide, z .wide .high) };
+        sized = build-sized;
         first = a .first;
         second = a .second;
       }

@@ -109,16 +109,24 @@ pub fn rest(s: &[u8], counts: [u8; TYPES_MOST], n: usize) -> [u8; TYPES_MOST]
     r
 }
 
+// The first n counts, added up.
+pub fn pieces_of(counts: [u8; TYPES_MOST], n: usize) -> usize
+    requires { ⌜ n ≤ typesMost ⌝ }
+    ensures { λ r. ⌜ (r ≡ sum (take n counts)) × (r ≤ countsMost) ⌝ }
+{
+    let mut r = 0;
+    let mut i = 0;
+    while i < n {
+        r += wide(counts[i]) as usize;
+        i += 1;
+    }
+    r
+}
+
 // The first n counts of a record, added up.
 pub fn pieces(s: &[u8], n: usize) -> usize
     requires { ⌜ (length (now s) ≡ recordBytes) × (n ≤ typesMost) ⌝ }
     ensures { λ r. ⌜ (r ≡ sum (take n (take typesMost (now (s .entry))))) × (r ≤ countsMost) ⌝ }
 {
-    let mut r = 0;
-    let mut i = 0;
-    while i < n {
-        r += wide(s[i]) as usize;
-        i += 1;
-    }
-    r
+    pieces_of(counts_of(s), n)
 }

@@ -1,9 +1,9 @@
 -- `classes::enter` meets its contract. Assumes nothing.
-use mathlib.Core.Path.{ap, _∙_, subst}
+use mathlib.Core.Path.{ap₂, _∙_, subst}
 use native.Mathlib.Numerals.{add-one}
-use lib.ListN.{take}
 use Rattle.arena.specs.Records.{Linked}
-use Rattle.classes.specs.Directory.{bucketOf, chainLink, headLink}
+use Rattle.weighing.specs.Weights.{spread}
+use Rattle.classes.specs.Directory.{chainLink, headLink}
 use Rattle.classes.proofs.Laws.{written, entered}
 use borrow.Author.Needs.{needs}
 use Rattle.classes.proofs.enter.Statement.{statement}
@@ -11,6 +11,9 @@ use Rattle.classes.proofs.enter.Tie as tie
 
 room-requires : tie.Need-room-requires
 room-requires c κs = search needs
+
+weight-of-requires : tie.Need-weight-of-requires
+weight-of-requires c κs = search needs
 
 bucket-requires : tie.Need-bucket-requires
 bucket-requires c κs = search needs
@@ -40,13 +43,13 @@ returns c =
     let p1 = p2 .before .before .before .before in
     let la = p1 .before .before in
     let bk = la .before .before in
-    let rm = bk .before in
+    let wt = bk .before in
+    let rm = wt .before in
     let st = rm .before .before in
     let s = st .args .arena .now in
     let start = st .args .start in
     let h = bk .bucket .result in
-    let key = take (st .args .types) (st .args .counts) in
-    entered (st .pre .0) (bk .bucket .ensures .0 ∙ ap (λ k. bucketOf k key) (rm .room .ensures))
+    entered (st .pre .0) (bk .bucket .ensures .0 ∙ ap₂ spread (rm .room .ensures) (wt .weight-of .ensures .0))
     (written s (p1 .put-link .last .0) (p2 .put-link2 .last .0) (p3 .put-link3 .last .0) start (st .args .n) h
     (subst (λ v. Linked start chainLink v s (p1 .put-link .last .0)) (la .link-at .ensures .0) (p1 .put-link .ensures)) (p2 .put-link2 .ensures)
     (subst (λ v. Linked h headLink v (p2 .put-link2 .last .0) (p3 .put-link3 .last .0)) (add-one start) (p3 .put-link3 .ensures)))
@@ -56,6 +59,7 @@ enter-spec =
     tie.close
     (tie.spec
     room-requires
+    weight-of-requires
     bucket-requires
     link-at-requires
     put-link-requires

@@ -1,66 +1,21 @@
--- `tally::pieces` meets its contract. The invariant: the first i counts are added up. Assumes nothing.
-use Prim.Native.Nat.{_*_, _-_, _≤_}
-use native.Mathlib.Omega.{arith}
-use mathlib.Core.Path.{_≡_, ap, _∙_}
+-- `tally::pieces` meets its contract. Assumes nothing.
+use mathlib.Core.Path.{ap, _∙_}
 use lib.ListN.{take}
-use lib.Seq.{getD-take}
-use Rattle.rules.specs.Limits.{typesMost}
 use Rattle.rules.specs.Bag.{sum}
-use Rattle.rules.proofs.Tally.{sum-next}
-use Rattle.tally.specs.Bounds.{byteMost}
 use borrow.Author.Needs.{needs}
 use Rattle.tally.proofs.pieces.Statement.{statement}
 use Rattle.tally.proofs.pieces.Tie as tie
 
-abbrev Inv-loop : tie.InvT-loop
-Inv-loop s n r₀ i₀ r i = (i ≤ n) × (r ≡ sum (take i (take typesMost s))) × (r ≤ i * byteMost)
+counts-of-requires : tie.Need-counts-of-requires
+counts-of-requires c κs = search needs
 
-abbrev μ-loop : tie.MeasureT-loop
-μ-loop s n r₀ i₀ r i = n - i
+pieces-of-requires : tie.Need-pieces-of-requires
+pieces-of-requires c κs = search needs
 
-loop-holds : tie.Need-loop-holds Inv-loop μ-loop
-loop-holds c = search needs
-
-shared-slice-read-wide : tie.Need-shared-slice-read-wide Inv-loop μ-loop
-shared-slice-read-wide c = search needs
-
-wide-requires : tie.Need-wide-requires Inv-loop μ-loop
-wide-requires c κs = search needs
-
-add-r : tie.Need-add-r Inv-loop μ-loop
-add-r c = search needs
-
-add-i : tie.Need-add-i Inv-loop μ-loop
-add-i c = search needs
-
-loop-less : tie.Need-loop-less Inv-loop μ-loop
-loop-less c = search needs
-
-loop-again : tie.Need-loop-again Inv-loop μ-loop
-loop-again c =
-    let l = c .before .before .before .loop in
-    let s = c .before .before .before .before .before .args .s .now in
-    let w = c .wide .ensures in
-    (omega arith, omega (arith, l .inv .1, w .0, sum-next (l .i) (take typesMost s), getD-take typesMost s (l .i) 0 (omega arith)), omega (arith, l .inv .2, w .1))
-
-returns : tie.Need-returns Inv-loop μ-loop
+returns : tie.Need-returns
 returns c =
-    let l = c .before .loop in
-    let st = c .before .before .before in
-    let e : l .i ≡ st .args .n = omega arith in
-    (l .inv .1 ∙ ap (λ k. sum (take k (take typesMost (st .args .s .now)))) e, omega (arith, l .inv .2))
+    let co = c .before in
+    (c .pieces-of .ensures .0 ∙ ap (λ l. sum (take (co .before .before .args .n) l)) (co .counts-of .ensures), c .pieces-of .ensures .1)
 
 pub pieces-spec : {M : Type 1} → statement M
-pieces-spec =
-    tie.close
-    (tie.spec
-    Inv-loop
-    μ-loop
-    loop-holds
-    shared-slice-read-wide
-    wide-requires
-    add-r
-    add-i
-    loop-less
-    loop-again
-    returns)
+pieces-spec = tie.close (tie.spec counts-of-requires pieces-of-requires returns)

@@ -1,0 +1,3 @@
+-- Proofs that the functions meet their contracts.
+pub mod Laws
+pub mod Odometer

@@ -1,0 +1,2 @@
+-- What is promised of a class that is made of pairs.
+pub mod Halves

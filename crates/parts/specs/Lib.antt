@@ -1,0 +1,2 @@
+-- Parts of counts.
+pub mod Parts

@@ -1,0 +1,2 @@
+-- Proofs that the functions meet their contracts.
+pub mod Opened

@@ -1,0 +1,2 @@
+-- What keys weigh.
+pub mod Weights

@@ -19,10 +19,10 @@ ghost use Rattle.rules.specs.Limits.{recordBytes, typesMost};
 ghost use Rattle.rules.specs.Bag.{sum};
 ghost use Rattle.rules.specs.Job.{plus};
 ghost use Rattle.rules.specs.Planner.{roomOf};
-ghost use Rattle.rules.proofs.Outlines.{sameList, sameOutline, atMost};
+ghost use Rattle.rules.proofs.Outlines.{sameList, atMost};
 ghost use Rattle.rules.proofs.Classes.{oneMore};
 ghost use Rattle.tally.specs.Bounds.{byteMost, countsMost, BoundsOf};
-ghost use Rattle.outline.specs.Stands.{outlineOf, twoBytes};
+ghost use Rattle.outline.specs.Stands.{twoBytes};
 ghost use Rattle.arena.specs.Bytes.{word, putWord, behind, linkOf, howOf, encode, decode};
 ghost use Rattle.arena.specs.Records.{recordAt, sizeOf, linkAt, linksMost, Storable, StoredAlone, Loaded, Linkable, Linked};
 
@@ -202,30 +202,6 @@ pub fn load(arena: &[u8], i: usize) -> Record
     read(&arena[at..end])
 }
 
-fn same(s: &[u8], o: Outline, types: usize) -> bool
-    requires { ⌜ (length (now s) ≡ recordBytes) × (types ≤ typesMost) ⌝ }
-    ensures { λ r. ⌜ r ≡ sameOutline (outlineOf types o) (outlineOf types (decode (now (s .entry)) .outline)) ⌝ }
-{
-    if o.length.0 != get(s, LENGTH_AT) {
-        return false;
-    }
-    if o.width.0 != get(s, WIDTH_AT) {
-        return false;
-    }
-    let counts = o.counts;
-    tally::same_counts(s, counts, types)
-}
-
-// Record i has this outline, for a job of so many types.
-pub fn same_at(arena: &[u8], i: usize, o: Outline, types: usize) -> bool
-    requires { ⌜ (i < roomOf (length (now arena))) × (types ≤ typesMost) ⌝ }
-    ensures { λ r. ⌜ r ≡ sameOutline (outlineOf types o) (outlineOf types (recordAt (now (arena .entry)) i .outline)) ⌝ }
-{
-    let at = i * RECORD_BYTES;
-    let end = at + RECORD_BYTES;
-    same(&arena[at..end], o, types)
-}
-
 // Reads link k of record i.
 pub fn link_at(arena: &[u8], i: usize, k: usize) -> usize
     requires { ⌜ (i < roomOf (length (now arena))) × (k < linksMost) ⌝ }
@@ -251,9 +227,14 @@ pub fn size_at(arena: &[u8], i: usize, way: usize) -> u64
 }
 
 // Record i has these counts, for a job of so many types.
-pub fn counts_at(arena: &[u8], i: usize, counts: [u8; TYPES_MOST], types: usize) -> bool
-    requires { ⌜ (i < roomOf (length (now arena))) × (types ≤ typesMost) ⌝ }
-    ensures { λ r. ⌜ r ≡ sameList (take types counts) (take types (recordAt (now (arena .entry)) i .outline .counts)) ⌝ }
+pub fn counts_at(
+    arena: &[u8],
+    i: usize,
+    counts: &[u8; TYPES_MOST],
+    types: usize,
+) -> bool
+    requires { ⌜ (i < roomOf (length (now arena))) × (length (now counts) ≡ typesMost) × (types ≤ typesMost) ⌝ }
+    ensures { λ r. ⌜ r ≡ sameList (take types (now (counts .entry))) (take types (recordAt (now (arena .entry)) i .outline .counts)) ⌝ }
 {
     let at = i * RECORD_BYTES;
     let end = at + RECORD_BYTES;

@@ -21,8 +21,7 @@ use Rattle.arena.specs.Records.{recordAt, linkAt}
 use Rattle.weighing.specs.Weights.{weighed}
 use Rattle.weighing.proofs.Laws.{weighed-plus}
 use Rattle.classes.specs.Directory.{endLink, Class}
-use Rattle.parts.specs.declared.Portion.{Portion}
-use Rattle.parts.specs.Parts.{digit, halfOf, PortionOf, Part, Stuck, Behind, Earlier}
+use Rattle.parts.specs.Parts.{digit, halfOf, Portion, PortionOf, Part, Stuck, Behind, Earlier}
 use Rattle.parts.proofs.Parts.{Same, earlier-step, earlier-end, earlier-none}
 use Rattle.outlines.specs.declared.Listed.{Listed}
 use Rattle.growing.specs.Growing.{Growing, Came, Comes, pairOf}
@@ -54,12 +53,12 @@ portion-whole {types} {counts} {p} h few e =
         omega (arith, digit-plus k (take types (p .part)) (take types (p .rest)) ls, getD-take types (p .part) k 0 m, getD-take types (p .rest) k 0 m, getD-take types counts k 0 m, h .adds k m))
 
 -- what the rest weighs
-pub rest-weighs : {job : Job} {p : Portion} {weight : ℕ} → PartWeighs job p weight → job .count ≤ typesMost → (p .weight ≤ weight) × (weight - p .weight ≡ weighed 0 (take (job .count) (p .rest)))
-rest-weighs {job} {p} h few =
-    let lp = length-take-le (job .count) (p .part) (omega (arith, h .long)) in
-    let lr = length-take-le (job .count) (p .rest) (omega (arith, h .long-rest)) in
-    let s = weighed-plus 0 (take (job .count) (p .part)) (take (job .count) (p .rest)) (lp ∙ sym lr) in
-    (omega (arith, h .part, h .whole), omega (arith, h .part, h .whole))
+pub rest-weighs : {job : Job} {part rest : List ℕ} {share weight : ℕ} → PartWeighs job part rest share weight → job .count ≤ typesMost → (share ≤ weight) × (weight - share ≡ weighed 0 (take (job .count) rest))
+rest-weighs {job} {part} {rest} h few =
+    let lp = length-take-le (job .count) part (omega (arith, h .long)) in
+    let lr = length-take-le (job .count) rest (omega (arith, h .long-rest)) in
+    let s = weighed-plus 0 (take (job .count) part) (take (job .count) rest) (lp ∙ sym lr) in
+    (omega (arith, h .part-weighs, h .whole-weighs), omega (arith, h .part-weighs, h .whole-weighs))
 
 -- a part is tried
 module _ {job : Job} {least : Least} {s : List ℕ} {start n half : ℕ} {c : List ℕ} (h : Trying job least s start n half c) (part : List ℕ) where

@@ -14,7 +14,6 @@ use Rattle.outline.specs.declared.Least.{Least}
 use Rattle.outline.specs.Stands.{LeastOf}
 use Rattle.weighing.specs.Weights.{weighed}
 use Rattle.classes.specs.Directory.{Class, Turn}
-use Rattle.parts.specs.declared.Portion.{Portion}
 use Rattle.outlines.specs.Listing.{Ready, JoinIn}
 use Rattle.growing.specs.Growing.{Growing, pairOf}
 use Rattle.growing.specs.Rows.{OfClass}
@@ -24,8 +23,8 @@ use Rattle.pairing.specs.Pairs.{keyAt, AbleAt}
 abbrev pub wholeWith : Job → List ℕ → ℕ → List ℕ → List ℕ
 wholeWith job s a rest = rules.plus (keyAt job s a) (take (job .count) rest)
 
-abbrev pub wholeOf : Job → Portion → List ℕ
-wholeOf job p = rules.plus (take (job .count) (p .part)) (take (job .count) (p .rest))
+abbrev pub wholeOf : Job → (part rest : List ℕ) → List ℕ
+wholeOf job part rest = rules.plus (take (job .count) part) (take (job .count) rest)
 
 -- the joins, in both ways, of record i as a first half with all records before start that it adds up to counts c with
 abbrev pub PairsOf : Job → Least → List ℕ → ℕ → List ℕ → ℕ → List rules.Outline → Type 0
@@ -59,11 +58,11 @@ abbrev pub PairsBefore : Job → Least → List ℕ → ℕ → List ℕ → ℕ
 PairsBefore job least s start c half l = (i : ℕ) → i < half → PairsOf job least s start c i l
 
 -- what a part weighs, and all of the counts
-pub record PartWeighs (job : Job) (p : Portion) (weight : ℕ) : Type 0 where
-  pub long : length (p .part) ≡ typesMost
-  pub long-rest : length (p .rest) ≡ typesMost
-  pub part : p .weight ≡ weighed 0 (take (job .count) (p .part))
-  pub whole : weight ≡ weighed 0 (wholeOf job p)
+pub record PartWeighs (job : Job) (part rest : List ℕ) (share weight : ℕ) : Type 0 where
+  pub long : length part ≡ typesMost
+  pub long-rest : length rest ≡ typesMost
+  pub part-weighs : share ≡ weighed 0 (take (job .count) part)
+  pub whole-weighs : weight ≡ weighed 0 (wholeOf job part rest)
 
 -- a part may be tried while the class with counts c grows
 pub record Trying (job : Job) (least : Least) (s : List ℕ) (start n half : ℕ) (c : List ℕ) : Type 0 where

@@ -4,11 +4,12 @@
 use classes::Found;
 use outline::Least;
 use outlines::Listed;
-use parts::Portion;
+use parts::Step;
 use shapes::Job;
 use shapes::TYPES_MOST;
 ghost use mathlib.Core.Path.{_≡_};
-ghost use lib.ListN.{take};
+ghost use lib.ListN.{length, take};
+ghost use Rattle.rules.specs.Limits.{typesMost};
 ghost use Rattle.weighing.specs.Weights.{weighed};
 ghost use Rattle.growing.specs.Growing.{Comes};
 ghost use Rattle.halving.specs.Halves.{wholeWith, wholeOf, Halving, Within, ClassPairs, PartWeighs, Trying, PartPairs, Sought, PairsBefore};
@@ -23,12 +24,12 @@ fn add_rest(
     start: usize,
     n: usize,
     a: usize,
-    rest: [u8; TYPES_MOST],
+    rest: &[u8; TYPES_MOST],
     weight: u64,
     least: Least,
 ) -> Listed
-    requires { ⌜ Halving job least (now arena) start n a (wholeWith job (now arena) a rest) × (weight ≡ weighed 0 (take (job .count) rest)) ⌝ }
-    ensures { λ r. ⌜ Comes job start (wholeWith job (now (arena .entry)) a rest) (ClassPairs job least (now (arena .entry)) start (wholeWith job (now (arena .entry)) a rest) a) (now (arena .entry)) n (now (arena .exit)) r ⌝ }
+    requires { ⌜ Halving job least (now arena) start n a (wholeWith job (now arena) a (now rest)) × (length (now rest) ≡ typesMost) × (weight ≡ weighed 0 (take (job .count) (now rest))) ⌝ }
+    ensures { λ r. ⌜ Comes job start (wholeWith job (now (arena .entry)) a (now (rest .entry))) (ClassPairs job least (now (arena .entry)) start (wholeWith job (now (arena .entry)) a (now (rest .entry))) a) (now (arena .entry)) n (now (arena .exit)) r ⌝ }
 {
     match classes::find_weighed(arena, start, rest, job.count as usize, weight) {
         Found::Nowhere => Listed::Complete(n),
@@ -52,7 +53,7 @@ fn add_class(
     let types = job.count as usize;
     let rest = arena::rest_at(arena, a, counts, types);
     let weight = weighing::weight_of(rest, types);
-    add_rest(job, arena, start, n, a, rest, weight, least)
+    add_rest(job, arena, start, n, a, &rest, weight, least)
 }
 
 // By walking to each class before `half`.
@@ -87,29 +88,29 @@ fn grow_by_classes(
     Listed::Complete(n)
 }
 
-// Joins the class whose counts are this part, if it stands before `half`, with the class of the rest. All of the counts weigh so much.
+// Joins the class whose counts are this part, if it stands before `half`, with the class of the rest. What the part weighs, and all of the counts, is given.
 fn add_part(
     job: Job,
     arena: &mut [u8],
     start: usize,
     n: usize,
     half: usize,
-    p: Portion,
+    part: &[u8; TYPES_MOST],
+    rest: &[u8; TYPES_MOST],
+    share: u64,
     weight: u64,
     least: Least,
 ) -> Listed
-    requires { ⌜ Trying job least (now arena) start n half (wholeOf job p) × PartWeighs job p weight ⌝ }
-    ensures { λ r. ⌜ Comes job start (wholeOf job p) (PartPairs job least (now (arena .entry)) start half (wholeOf job p) (take (job .count) (p .part))) (now (arena .entry)) n (now (arena .exit)) r ⌝ }
+    requires { ⌜ Trying job least (now arena) start n half (wholeOf job (now part) (now rest)) × PartWeighs job (now part) (now rest) share weight ⌝ }
+    ensures { λ r. ⌜ Comes job start (wholeOf job (now (part .entry)) (now (rest .entry))) (PartPairs job least (now (arena .entry)) start half (wholeOf job (now (part .entry)) (now (rest .entry))) (take (job .count) (now (part .entry)))) (now (arena .entry)) n (now (arena .exit)) r ⌝ }
 {
-    let part = p.part;
-    let rest = p.rest;
-    match classes::find_weighed(arena, start, part, job.count as usize, p.weight) {
+    match classes::find_weighed(arena, start, part, job.count as usize, share) {
         Found::Nowhere => Listed::Complete(n),
         Found::At(a) => {
             if half <= a {
                 return Listed::Complete(n);
             }
-            add_rest(job, arena, start, n, a, rest, weight - p.weight, least)
+            add_rest(job, arena, start, n, a, rest, weight - share, least)
         }
     }
 }
@@ -129,9 +130,26 @@ fn grow_by_parts(
 {
     let types = job.count as usize;
     let mut n = start;
-    let mut p = parts::first(counts, types);
+    let mut part = [0u8; TYPES_MOST];
+    let mut rest = counts;
+    let mut step = Step {
+        weight: 0,
+        spare: tally::pieces_of(counts, types) / 2,
+        more: true,
+    };
     loop {
-        match add_part(job, arena, start, n, half, p, weight, least) {
+        match add_part(
+            job,
+            arena,
+            start,
+            n,
+            half,
+            &part,
+            &rest,
+            step.weight,
+            weight,
+            least,
+        ) {
             Listed::Full => {
                 return Listed::Full;
             }
@@ -139,11 +157,10 @@ fn grow_by_parts(
                 n = m;
             }
         }
-        let next = parts::next(p, counts, types);
-        if !next.more {
+        step = parts::next(&mut part, &mut rest, counts, types, step);
+        if !step.more {
             return Listed::Complete(n);
         }
-        p = next;
     }
 }
 

@@ -99,7 +99,7 @@ fn add_target(
 {
     let types = job.count as usize;
     let weight = weighing::weight_of(counts, types);
-    match classes::find_weighed(arena, n, counts, types, weight) {
+    match classes::find_weighed(arena, n, &counts, types, weight) {
         Found::At(_) => Listed::Complete(n),
         Found::Nowhere => {
             if classes::lacks_less(arena, n, counts, types, weight) {

@@ -14,8 +14,8 @@ use Rattle.rules.specs.Limits.{typesMost}
 use Rattle.tally.specs.Bounds.{countsMost}
 use Rattle.weighing.specs.Weights.{weightMost, weightOf, weighed}
 use Rattle.weighing.proofs.Laws.{weighed-set, weighed-most}
-use Rattle.parts.specs.declared.Portion.{Portion}
-use Rattle.parts.specs.Parts.{digit, halfOf, PortionOf, Risable, Risen, Again, Stuck, Stepped}
+use Rattle.parts.specs.declared.Step.{Step}
+use Rattle.parts.specs.Parts.{digit, halfOf, Portion, portion, PortionOf, Risen, Stuck, Stepped}
 use Rattle.parts.proofs.Parts.{stuck-full, stuck-spare}
 
 sum-set : (l : List ℕ) (i v : ℕ) → i < length l → sum (set l i v) + getD l i 0 ≡ sum l + v
@@ -43,7 +43,7 @@ take-zeros (suc n) [] f k = refl
 take-zeros (suc n) (x ∷ l) f zero = f 0
 take-zeros (suc n) (x ∷ l) f (suc k) = take-zeros n l (λ j. f (suc j)) k
 
-pub portion-start : {types : ℕ} {c : List ℕ} (part : List ℕ) → length c ≡ typesMost → length part ≡ typesMost → ((k : ℕ) → digit part k ≡ 0) → (n : ℕ) → n ≡ sum (take types c) → n ≤ countsMost → PortionOf types c (record { part = part; rest = c; weight = 0; spare = n / 2; more = true })
+pub portion-start : {types : ℕ} {c : List ℕ} (part : List ℕ) → length c ≡ typesMost → length part ≡ typesMost → ((k : ℕ) → digit part k ≡ 0) → (n : ℕ) → n ≡ sum (take types c) → n ≤ countsMost → PortionOf types c (record { part = part; rest = c; weight = 0; spare = n / 2 })
 portion-start {types} {c} part lc lp z n e m =
     let w = nothing-weighs 0 (take types part) (take-zeros types part z) in
     record {
@@ -94,106 +94,102 @@ module _ {types : ℕ} {c : List ℕ} {p : Portion} (h : PortionOf types c p) (f
     pub count-weighs : digit (p .part) t * weightOf t ≤ p .weight
     count-weighs = omega (arith, weight-set 0)
 
-    pub began : (n w v : ℕ) → n ≡ digit (p .part) t → w ≡ weightOf t → v ≡ digit c t → Again types c p t (record { part = set (p .part) t 0; rest = set (p .rest) t v; weight = p .weight - n * w; spare = p .spare + n; more = true })
+    -- the count begins again
+    pub began : (n w v : ℕ) → n ≡ digit (p .part) t → w ≡ weightOf t → v ≡ digit c t → PortionOf types c (record { part = set (p .part) t 0; rest = set (p .rest) t v; weight = p .weight - n * w; spare = p .spare + n })
     began n w v en ew ev =
         let z : n * w ≡ digit (p .part) t * weightOf t = λ i. en i * ew i in
         record {
-          part = refl;
-          of = record {
-            long = simp length-set (h .long);
-            long-rest = simp length-set (h .long-rest);
-            adds = adds-set 0 v (omega arith);
-            weighs = omega (arith, weight-set 0, count-weighs);
-            spares = omega (arith, pieces-set 0, h .spares);
-            small = h .small;
-          };
+          long = simp length-set (h .long);
+          long-rest = simp length-set (h .long-rest);
+          adds = adds-set 0 v (omega arith);
+          weighs = omega (arith, weight-set 0, count-weighs);
+          spares = omega (arith, pieces-set 0, h .spares);
+          small = h .small;
         }
 
-pub risen : {types : ℕ} {c : List ℕ} {p : Portion} {t : ℕ} → Risable types c p t → types ≤ typesMost → (v w u : ℕ) → v ≡ digit (p .part) t + 1 → v < 256 → w ≡ weightOf t → u ≡ digit (p .rest) t - 1 → Risen types c p t (record { part = set (p .part) t v; rest = set (p .rest) t u; weight = p .weight + w; spare = p .spare - 1; more = true })
-risen {types} {c} {p} {t} h few v w u ev b ew eu =
-    let a = h .of .adds t (h .among) in
-    let l = h .left in
-    let s = h .spare in
-    let z : v * weightOf t ≡ digit (p .part) t * weightOf t + w = ap (λ k. k * weightOf t) ev ∙ add-mul (digit (p .part) t) 1 (weightOf t) ∙ omega arith in
-    record {
-      part = λ i. set (p .part) t (plain i);
-      byte = omega arith;
-      more = refl;
-      of = record {
-        long = simp length-set (h .of .long);
-        long-rest = simp length-set (h .of .long-rest);
-        adds = adds-set (h .of) few t (h .among) v u (omega arith);
-        weighs = omega (arith, weight-set (h .of) few t (h .among) v);
-        spares = omega (arith, pieces-set (h .of) few t (h .among) v, h .of .spares);
-        small = h .of .small;
-      };
-    }
-  where
-    plain : v ≡ suc (digit (p .part) t)
-    plain = omega arith
+    -- it goes up
+    pub risen : (w : ℕ) → w ≡ weightOf t → 0 < p .spare → 0 < digit (p .rest) t → PortionOf types c (record { part = set (p .part) t (suc (digit (p .part) t)); rest = set (p .rest) t (digit (p .rest) t - 1); weight = p .weight + w; spare = p .spare - 1 })
+    risen w ew s l =
+        let a = h .adds t among in
+        let v = suc (digit (p .part) t) in
+        let z : v * weightOf t ≡ digit (p .part) t * weightOf t + w = omega arith in
+        record {
+          long = simp length-set (h .long);
+          long-rest = simp length-set (h .long-rest);
+          adds = adds-set v (digit (p .rest) t - 1) (omega arith);
+          weighs = omega (arith, weight-set v);
+          spares = omega (arith, pieces-set v, h .spares);
+          small = h .small;
+        }
 
 -- as far as the odometer has turned: the counts before i could not go up, and have begun again
-pub record Turning (types : ℕ) (c : List ℕ) (p q : Portion) (i : ℕ) : Type 0 where
+pub record Turning (types : ℕ) (c d : List ℕ) (q : Portion) (i : ℕ) : Type 0 where
   pub upto : i ≤ types
   pub of : PortionOf types c q
-  pub stuck : (k : ℕ) → k < i → Stuck types c (p .part) k
+  pub stuck : (k : ℕ) → k < i → Stuck types c d k
   pub again : (k : ℕ) → k < i → digit (q .part) k ≡ 0
-  pub same : (k : ℕ) → i ≤ k → digit (q .part) k ≡ digit (p .part) k
+  pub same : (k : ℕ) → i ≤ k → digit (q .part) k ≡ digit d k
 
-pub turning-start : {types : ℕ} {c : List ℕ} {p : Portion} → PortionOf types c p → Turning types c p p 0
+pub turning-start : {types : ℕ} {c : List ℕ} {p : Portion} → PortionOf types c p → Turning types c (p .part) p 0
 turning-start h = record { upto = omega arith; of = h; stuck = λ k l. absurd (omega arith); again = λ k l. absurd (omega arith); same = λ k l. refl }
 
-module _ {types : ℕ} {c : List ℕ} {p q : Portion} {i : ℕ} (t : Turning types c p q i) (few : types ≤ typesMost) where
+module _ {types : ℕ} {c d : List ℕ} {q : Portion} {i : ℕ} (t : Turning types c d q i) (few : types ≤ typesMost) where
   module _ (more : i < types) where
-    now-stuck : (q .spare ≡ 0) ⊎ (digit (q .rest) i ≡ 0) → Stuck types c (p .part) i
+    -- the count can go no further
+    pub now-stuck : (q .spare ≡ 0) ⊎ (digit (q .rest) i ≡ 0) → Stuck types c d i
     now-stuck (inl z) =
-        stuck-spare c (p .part) (take types (q .part)) more (part-long (t .of) few) (λ j l. getD-take types (q .part) j 0 (omega arith) ∙ t .again j l)
+        stuck-spare c d (take types (q .part)) more (part-long (t .of) few) (λ j l. getD-take types (q .part) j 0 (omega arith) ∙ t .again j l)
         (λ j a b. getD-take types (q .part) j 0 b ∙ t .same j a) (omega (arith, t .of .spares))
-    now-stuck (inr z) = stuck-full c (p .part) more (omega (arith, t .of .adds i more, t .same i (omega arith)))
+    now-stuck (inr z) = stuck-full c d more (omega (arith, t .of .adds i more, t .same i (omega arith)))
 
-    pub turning-more : (q .spare ≡ 0) ⊎ (digit (q .rest) i ≡ 0) → {r : Portion} → Again types c q i r → Turning types c p r (i + 1)
-    turning-more z {r} a = record {
+    turning-more : Stuck types c d i → (n w v : ℕ) → n ≡ digit (q .part) i → w ≡ weightOf i → v ≡ digit c i → Turning types c d (record { part = set (q .part) i 0; rest = set (q .rest) i v; weight = q .weight - n * w; spare = q .spare + n }) (i + 1)
+    turning-more z n w v en ew ev = record {
       upto = omega arith;
-      of = a .of;
+      of = began (t .of) few i more n w v en ew ev;
       stuck = λ k l. before k l (ℕ-discrete k i);
       again = λ k l. zeros k l (ℕ-discrete k i);
-      same = λ k l. ap (λ v. digit v k) (a .part) ∙ getD-set-other (q .part) i k 0 0 (λ e. omega arith) ∙ t .same k (omega arith);
+      same = λ k l. getD-set-other (q .part) i k 0 0 (λ e. omega arith) ∙ t .same k (omega arith);
     }
       where
-        before : (k : ℕ) → k < i + 1 → Dec (k ≡ i) → Stuck types c (p .part) k
-        before k l (yes e) = subst (Stuck types c (p .part)) (sym e) (now-stuck z)
+        before : (k : ℕ) → k < i + 1 → Dec (k ≡ i) → Stuck types c d k
+        before k l (yes e) = subst (Stuck types c d) (sym e) z
         before k l (no e) = t .stuck k (omega arith)
 
-        zeros : (k : ℕ) → k < i + 1 → Dec (k ≡ i) → digit (r .part) k ≡ 0
-        zeros k l (yes e) = ap (λ v. digit v k) (a .part) ∙ ap (digit (set (q .part) i 0)) e ∙ getD-set-same (q .part) i 0 0 (omega (arith, t .of .long))
-        zeros k l (no e) = ap (λ v. digit v k) (a .part) ∙ getD-set-other (q .part) i k 0 0 e ∙ t .again k (omega arith)
+        zeros : (k : ℕ) → k < i + 1 → Dec (k ≡ i) → digit (set (q .part) i 0) k ≡ 0
+        zeros k l (yes e) = ap (digit (set (q .part) i 0)) e ∙ getD-set-same (q .part) i 0 0 (omega (arith, t .of .long))
+        zeros k l (no e) = getD-set-other (q .part) i k 0 0 e ∙ t .again k (omega arith)
 
-    pub turning-up : {r : Portion} → Risen types c q i r → Stepped types c p r
-    turning-up {r} u = record {
-      of = u .of;
-      yes-if = λ _. record {
-        at = i;
-        among = more;
-        byte = omega (arith, u .byte, t .same i (omega arith));
-        up = ap (λ v. digit v i) (u .part) ∙ getD-set-same (q .part) i (suc (digit (q .part) i)) 0 (omega (arith, t .of .long)) ∙ ap suc (t .same i (omega arith));
-        stuck = t .stuck;
-        again = λ k l. ap (λ v. digit v k) (u .part) ∙ getD-set-other (q .part) i k (suc (digit (q .part) i)) 0 (λ e. omega arith) ∙ t .again k l;
-        stays = λ k l m. ap (λ v. digit v k) (u .part) ∙ getD-set-other (q .part) i k (suc (digit (q .part) i)) 0 (λ e. omega arith) ∙ t .same k (omega arith);
-      };
-      no-if = λ e. absurd (true≢false (sym (u .more) ∙ e));
-    }
+    -- the same, where it was written
+    pub turning-again : Stuck types c d i → {part rest : List ℕ} (n w v : ℕ) → n ≡ digit (q .part) i → w ≡ weightOf i → v ≡ digit c i → part ≡ set (q .part) i 0 → rest ≡ set (q .rest) i v → Turning types c d (record { part = part; rest = rest; weight = q .weight - n * w; spare = q .spare + n }) (i + 1)
+    turning-again z {part} {rest} n w v en ew ev ep er =
+        subst (λ x. Turning types c d (record { part = x; rest = rest; weight = q .weight - n * w; spare = q .spare + n }) (i + 1)) (sym ep)
+        (subst (λ x. Turning types c d (record { part = set (q .part) i 0; rest = x; weight = q .weight - n * w; spare = q .spare + n }) (i + 1)) (sym er) (turning-more z n w v en ew ev))
+
+    pub turning-up : {part rest : List ℕ} → Risen i (q .part) (q .rest) part rest → (r : Step) → 0 < q .spare → 0 < digit (q .rest) i → r .weight ≡ q .weight + weightOf i → r .spare ≡ q .spare - 1 → r .more ≡ true → Stepped types c d part rest r
+    turning-up {part} {rest} u r s l ew es em =
+        let o = risen (t .of) few i more (weightOf i) refl s l in
+        let x : suc (digit (q .part) i) ≡ suc (digit d i) = ap suc (t .same i (omega arith)) in
+        record {
+          of = record {
+            long = ap length (u .up) ∙ o .long;
+            long-rest = ap length (u .down) ∙ o .long-rest;
+            adds = λ k m. omega (arith, ap (λ v. digit v k) (u .up), ap (λ v. digit v k) (u .down), o .adds k m);
+            weighs = ew ∙ o .weighs ∙ ap (λ v. weighed 0 (take types v)) (sym (u .up));
+            spares = omega (arith, es, ap (λ v. sum (take types v)) (u .up), o .spares);
+            small = o .small;
+          };
+          yes-if = λ _. record {
+            at = i;
+            among = more;
+            byte = omega (arith, u .byte, t .same i (omega arith));
+            up = ap (λ v. digit v i) (u .up) ∙ getD-set-same (q .part) i (suc (digit (q .part) i)) 0 (omega (arith, t .of .long)) ∙ x;
+            stuck = t .stuck;
+            again = λ k m. ap (λ v. digit v k) (u .up) ∙ getD-set-other (q .part) i k (suc (digit (q .part) i)) 0 (λ e. omega arith) ∙ t .again k m;
+            stays = λ k m n. ap (λ v. digit v k) (u .up) ∙ getD-set-other (q .part) i k (suc (digit (q .part) i)) 0 (λ e. omega arith) ∙ t .same k (omega arith);
+          };
+          no-if = λ e. absurd (true≢false (sym em ∙ e));
+        }
 
   -- no count could go up
-  pub turning-end : types ≤ i → (r : Portion) → r .part ≡ q .part → r .rest ≡ q .rest → r .weight ≡ q .weight → r .spare ≡ q .spare → r .more ≡ false → Stepped types c p r
-  turning-end l r e1 e2 e3 e4 e5 = record {
-    of = record {
-      long = ap length e1 ∙ t .of .long;
-      long-rest = ap length e2 ∙ t .of .long-rest;
-      adds = λ k m. omega (arith, ap (λ v. digit v k) e1, ap (λ v. digit v k) e2, t .of .adds k m);
-      weighs = e3 ∙ t .of .weighs ∙ ap (λ v. weighed 0 (take types v)) (sym e1);
-      spares = omega (arith, e4, ap (λ v. sum (take types v)) e1, t .of .spares);
-      small = t .of .small;
-    };
-    yes-if = λ e. absurd (true≢false (sym e ∙ e5));
-    no-if = λ _ k m. t .stuck k (omega arith);
-  }
+  pub turning-end : types ≤ i → Stepped types c d (q .part) (q .rest) (record { weight = q .weight; spare = q .spare; more = false })
+  turning-end l = record { of = t .of; yes-if = λ e. absurd (true≢false (sym e)); no-if = λ _ k m. t .stuck k (omega arith) }

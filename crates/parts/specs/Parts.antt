@@ -3,13 +3,13 @@ use mathlib.Core.Path.{_≡_}
 use mathlib.Core.Bool.{Bool, true, false}
 use mathlib.Core.Logic.{_⊎_}
 use mathlib.Core.List.{List, [], _∷_}
-use Prim.Native.Nat.{ℕ, suc, _+_, _*_, _/_, _≤_, _<_}
+use Prim.Native.Nat.{ℕ, suc, _+_, _-_, _*_, _/_, _≤_, _<_}
 use lib.ListN.{length, getD, set, take}
 use Rattle.rules.specs.Bag.{sum}
 use Rattle.rules.specs.Limits.{typesMost}
 use Rattle.tally.specs.Bounds.{countsMost}
 use Rattle.weighing.specs.Weights.{weighed}
-use Rattle.parts.specs.declared.Portion.{Portion}
+use Rattle.parts.specs.declared.Step.{Step}
 
 -- the count of a type, and 0 behind the last
 abbrev pub digit : List ℕ → ℕ → ℕ
@@ -20,6 +20,15 @@ abbrev pub halfOf : ℕ → List ℕ → ℕ
 halfOf types c = sum (take types c) / 2
 
 -- a part of counts, its rest, its weight, and how many pieces it lacks to half of them
+pub record Portion : Type 0 where
+  pub part : List ℕ
+  pub rest : List ℕ
+  pub weight : ℕ
+  pub spare : ℕ
+
+abbrev pub portion : List ℕ → List ℕ → Step → Portion
+portion part rest s = record { part = part; rest = rest; weight = s .weight; spare = s .spare }
+
 pub record PortionOf (types : ℕ) (c : List ℕ) (p : Portion) : Type 0 where
   pub long : length (p .part) ≡ typesMost
   pub long-rest : length (p .rest) ≡ typesMost
@@ -29,26 +38,15 @@ pub record PortionOf (types : ℕ) (c : List ℕ) (p : Portion) : Type 0 where
   pub small : sum (take types c) ≤ countsMost
 
 -- whether a part may have a piece more of a type
-pub record MayRise (p : Portion) (t : ℕ) (r : Bool) : Type 0 where
-  pub yes-if : r ≡ true → (0 < p .spare) × (0 < digit (p .rest) t)
-  pub no-if : r ≡ false → (p .spare ≡ 0) ⊎ (digit (p .rest) t ≡ 0)
+pub record MayRise (spare left : ℕ) (r : Bool) : Type 0 where
+  pub yes-if : r ≡ true → (0 < spare) × (0 < left)
+  pub no-if : r ≡ false → (spare ≡ 0) ⊎ (left ≡ 0)
 
-pub record Risable (types : ℕ) (c : List ℕ) (p : Portion) (t : ℕ) : Type 0 where
-  pub of : PortionOf types c p
-  pub among : t < types
-  pub spare : 0 < p .spare
-  pub left : 0 < digit (p .rest) t
-
--- it has one; it has none
-pub record Risen (types : ℕ) (c : List ℕ) (p : Portion) (t : ℕ) (r : Portion) : Type 0 where
-  pub of : PortionOf types c r
-  pub part : r .part ≡ set (p .part) t (suc (digit (p .part) t))
-  pub byte : digit (p .part) t < 255
-  pub more : r .more ≡ true
-
-pub record Again (types : ℕ) (c : List ℕ) (p : Portion) (t : ℕ) (r : Portion) : Type 0 where
-  pub of : PortionOf types c r
-  pub part : r .part ≡ set (p .part) t 0
+-- one piece of a type goes from the rest to the part
+pub record Risen (t : ℕ) (part rest part2 rest2 : List ℕ) : Type 0 where
+  pub up : part2 ≡ set part t (suc (digit part t))
+  pub down : rest2 ≡ set rest t (digit rest t - 1)
+  pub byte : digit part t < 255
 
 -- a part of counts c with at most half of the pieces
 pub record Part (types : ℕ) (c x : List ℕ) : Type 0 where
@@ -70,11 +68,11 @@ pub record Behind (types : ℕ) (c d e : List ℕ) : Type 0 where
   pub again : (k : ℕ) → k < at → digit e k ≡ 0
   pub stays : (k : ℕ) → at < k → k < types → digit e k ≡ digit d k
 
--- the part behind, or that there is none
-pub record Stepped (types : ℕ) (c : List ℕ) (p r : Portion) : Type 0 where
-  pub of : PortionOf types c r
-  pub yes-if : r .more ≡ true → Behind types c (p .part) (r .part)
-  pub no-if : r .more ≡ false → (k : ℕ) → k < types → Stuck types c (p .part) k
+-- the part behind, and its rest; or that there is none
+pub record Stepped (types : ℕ) (c d part rest : List ℕ) (r : Step) : Type 0 where
+  pub of : PortionOf types c (portion part rest r)
+  pub yes-if : r .more ≡ true → Behind types c d part
+  pub no-if : r .more ≡ false → (k : ℕ) → k < types → Stuck types c d k
 
 -- x comes before d: the last count in which they differ is less
 pub record Earlier (types : ℕ) (x d : List ℕ) : Type 0 where

@@ -3,45 +3,27 @@
 // It promises that no such part is passed over.
 use shapes::TYPES_MOST;
 ghost use mathlib.Core.Path.{_≡_};
-ghost use mathlib.Core.Bool.{false};
 ghost use Prim.Native.Nat.{ℕ, suc, _+_, _*_, _≤_, _<_};
 ghost use lib.Dec.{leb};
-ghost use lib.ListN.{take};
+ghost use lib.ListN.{set, take};
 ghost use Rattle.rules.specs.Limits.{typesMost, recordsMost};
-ghost use Rattle.parts.specs.Parts.{digit, PortionOf, MayRise, Risable, Risen, Again, Stepped, partsOf};
+ghost use Rattle.parts.specs.Parts.{digit, portion, PortionOf, MayRise, Risen, Stepped, partsOf};
 
-// A part of some counts, and the rest of them; what the part weighs; how many pieces more it may have; and whether it is one, or all have been.
-pub struct Portion {
-    pub part: [u8; TYPES_MOST],
-    pub rest: [u8; TYPES_MOST],
+// What a part weighs, how many pieces more it may have, and whether it is one, or all have been.
+pub struct Step {
     pub weight: u64,
     pub spare: usize,
     pub more: bool,
 }
 
-// The part of nothing.
-pub fn first(counts: [u8; TYPES_MOST], types: usize) -> Portion
-    requires { ⌜ types ≤ typesMost ⌝ }
-    ensures { λ r. ⌜ PortionOf types counts r × ((k : ℕ) → digit (r .part) k ≡ 0) ⌝ }
+// A part that may have so many pieces more may have one of a type of which so many are left.
+fn may_rise(spare: usize, left: u8) -> bool
+    ensures { λ r. ⌜ MayRise spare left r ⌝ }
 {
-    Portion {
-        part: [0u8; TYPES_MOST],
-        rest: counts,
-        weight: 0,
-        spare: tally::pieces_of(counts, types) / 2,
-        more: true,
-    }
-}
-
-// The part may have a piece more of type t.
-fn may_rise(p: Portion, t: usize) -> bool
-    requires { ⌜ t < typesMost ⌝ }
-    ensures { λ r. ⌜ MayRise p t r ⌝ }
-{
-    if p.spare == 0 {
+    if spare == 0 {
         return false;
     }
-    p.rest[t] > 0
+    left > 0
 }
 
 fn up(count: u8, end: u8) -> u8
@@ -51,74 +33,59 @@ fn up(count: u8, end: u8) -> u8
     count + 1
 }
 
-// One piece more of type t.
-fn rise(p: Portion, counts: [u8; TYPES_MOST], types: usize, t: usize) -> Portion
-    requires { ⌜ Risable types counts p t × (types ≤ typesMost) ⌝ }
-    ensures { λ r. ⌜ Risen types counts p t r ⌝ }
+// One piece more of type t, of which so many are wanted.
+fn rise(part: &mut [u8; TYPES_MOST], rest: &mut [u8; TYPES_MOST], t: usize, count: u8)
+    requires { ⌜ (t < typesMost) × (digit (now part) t < count) × (0 < digit (now rest) t) ⌝ }
+    ensures { λ _. ⌜ Risen t (now (part .entry)) (now (rest .entry)) (now (part .exit)) (now (rest .exit)) ⌝ }
 {
-    let mut part = p.part;
-    let mut rest = p.rest;
-    part[t] = up(part[t], counts[t]);
+    part[t] = up(part[t], count);
     rest[t] = rest[t] - 1;
-    Portion {
-        part,
-        rest,
-        weight: p.weight + weighing::weight_at(t),
-        spare: p.spare - 1,
-        more: true,
-    }
 }
 
 // No piece of type t: all of them are left.
-fn begin_again(p: Portion, counts: [u8; TYPES_MOST], types: usize, t: usize) -> Portion
-    requires { ⌜ PortionOf types counts p × (t < types) × (types ≤ typesMost) ⌝ }
-    ensures { λ r. ⌜ Again types counts p t r ⌝ }
+fn begin_again(part: &mut [u8; TYPES_MOST], rest: &mut [u8; TYPES_MOST], t: usize, count: u8)
+    requires { ⌜ t < typesMost ⌝ }
+    ensures { λ _. ⌜ (now (part .exit) ≡ set (now (part .entry)) t 0) × (now (rest .exit) ≡ set (now (rest .entry)) t count) ⌝ }
 {
-    let count = tally::wide(p.part[t]);
-    let mut part = p.part;
-    let mut rest = p.rest;
     part[t] = 0;
-    rest[t] = counts[t];
-    Portion {
-        part,
-        rest,
-        weight: p.weight - count * weighing::weight_at(t),
-        spare: p.spare + count as usize,
-        more: true,
-    }
+    rest[t] = count;
 }
 
-// There are no more.
-fn ended(p: Portion) -> Portion
-    ensures { λ r. ⌜ (r .part ≡ p .part) × (r .rest ≡ p .rest) × (r .weight ≡ p .weight) × (r .spare ≡ p .spare) × (r .more ≡ false) ⌝ }
+// The part behind a part of these counts, in its place, and its rest: the first count that may go up goes up, and those before it begin again.
+pub fn next(
+    part: &mut [u8; TYPES_MOST],
+    rest: &mut [u8; TYPES_MOST],
+    counts: [u8; TYPES_MOST],
+    types: usize,
+    from: Step,
+) -> Step
+    requires { ⌜ PortionOf types counts (portion (now part) (now rest) from) × (types ≤ typesMost) ⌝ }
+    ensures { λ r. ⌜ Stepped types counts (now (part .entry)) (now (part .exit)) (now (rest .exit)) r ⌝ }
 {
-    let part = p.part;
-    let rest = p.rest;
-    Portion {
-        part,
-        rest,
-        weight: p.weight,
-        spare: p.spare,
-        more: false,
-    }
-}
-
-// The part behind a part: the first count that may go up goes up, and those before it begin again.
-pub fn next(p: Portion, counts: [u8; TYPES_MOST], types: usize) -> Portion
-    requires { ⌜ PortionOf types counts p × (types ≤ typesMost) ⌝ }
-    ensures { λ r. ⌜ Stepped types counts p r ⌝ }
-{
-    let mut q = p;
+    let mut weight = from.weight;
+    let mut spare = from.spare;
     let mut i = 0;
     while i < types {
         let at = i;
         i += 1;
-        if may_rise(q, at) {
-            return rise(q, counts, types, at);
+        if may_rise(spare, rest[at]) {
+            rise(part, rest, at, counts[at]);
+            return Step {
+                weight: weight + weighing::weight_at(at),
+                spare: spare - 1,
+                more: true,
+            };
         }
-        q = begin_again(q, counts, types, at);
+        let count = tally::wide(part[at]);
+        weight -= count * weighing::weight_at(at);
+        spare += count as usize;
+        begin_again(part, rest, at, counts[at]);
     }
-    ended(q)
+    Step {
+        weight,
+        spare,
+        more: false,
+    }
 }
 
 // One type more: so many counts more.

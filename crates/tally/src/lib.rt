@@ -49,9 +49,9 @@ pub fn counts_of(s: &[u8]) -> [u8; TYPES_MOST]
 }
 
 // The first n counts of a record are these.
-pub fn same_counts(s: &[u8], counts: [u8; TYPES_MOST], n: usize) -> bool
-    requires { ⌜ (length (now s) ≡ recordBytes) × (n ≤ typesMost) ⌝ }
-    ensures { λ r. ⌜ r ≡ sameList (take n counts) (take n (take typesMost (now (s .entry)))) ⌝ }
+pub fn same_counts(s: &[u8], counts: &[u8; TYPES_MOST], n: usize) -> bool
+    requires { ⌜ (length (now s) ≡ recordBytes) × (length (now counts) ≡ typesMost) × (n ≤ typesMost) ⌝ }
+    ensures { λ r. ⌜ r ≡ sameList (take n (now (counts .entry))) (take n (take typesMost (now (s .entry)))) ⌝ }
 {
     let mut i = 0;
     while i < n {

@@ -28,7 +28,7 @@ same-requires c κs = search needs
 returns : tie.Need-returns
 returns c =
     let g = c .before .before .before .args in
-    c .same-counts .ensures ∙ ap (λ l. sameList (take (g .types) (g .counts)) (take (g .types) l)) (counts-in (g .arena .now) (g .i))
+    c .same-counts .ensures ∙ ap (λ l. sameList (take (g .types) (g .counts .now)) (take (g .types) l)) (counts-in (g .arena .now) (g .i))
 
 pub counts-at-spec : {M : Type 1} → statement M
 counts-at-spec =

@@ -36,10 +36,10 @@ loop-holds c =
     let b = c .before in
     let rm = b .before .before in
     let st = rm .before .before in
-    let key = take (st .args .types) (st .args .counts) in
+    let key = take (st .args .types) (st .args .counts .now) in
     let e = b .bucket .ensures in
     subst (Seek (st .args .types) (st .args .arena .now) (st .args .n) key) (sym (c .link-at .ensures .0))
-    (seek-start _ _ _ key (st .pre .0) (b .bucket .result) (omega (arith, e .1, rm .room .ensures)) (e .0 ∙ ap₂ spread (rm .room .ensures) (st .pre .2)))
+    (seek-start _ _ _ key (st .pre .0) (b .bucket .result) (omega (arith, e .1, rm .room .ensures)) (e .0 ∙ ap₂ spread (rm .room .ensures) (st .pre .3)))
 
 sub-at : tie.Need-sub-at Inv-loop μ-loop
 sub-at c = search needs
@@ -49,7 +49,7 @@ counts-at-requires c κs =
     let at = c .before in
     let st = at .before .before .before .before .before .before in
     let e : at .loop .p ≡ suc (at .loop .p - 1) = omega (arith, c .loop-test .taken) in
-    (seek-room _ _ _ [] (st .pre .0) _ (chase-at (at .loop .inv) _ e (omega arith) .0), st .pre .1)
+    (seek-room _ _ _ [] (st .pre .0) _ (chase-at (at .loop .inv) _ e (omega arith) .0), st .pre .2, st .pre .1)
 
 returns-2 : tie.Need-returns-2 Inv-loop μ-loop
 returns-2 c =
@@ -81,7 +81,7 @@ loop-again c =
     let at = il .before in
     let st = at .before .before .before .before .before .before in
     let e : at .loop .p ≡ suc (at .loop .p - 1) = omega (arith, il .loop-test .taken) in
-    subst (Seek (st .args .types) (st .args .arena .now) (st .args .n) (take (st .args .types) (st .args .counts))) (sym (c .link-at2 .ensures .0))
+    subst (Seek (st .args .types) (st .args .arena .now) (st .args .n) (take (st .args .types) (st .args .counts .now))) (sym (c .link-at2 .ensures .0))
     (chase-next (at .loop .inv) _ e (omega arith) (seek-other _ _ _ _ _ (sym (ca .counts-at .ensures) ∙ c .before .if2 .left)))
 
 returns-3 : tie.Need-returns-3 Inv-loop μ-loop

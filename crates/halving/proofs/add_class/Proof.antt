@@ -14,10 +14,10 @@ weight-of-requires c κs = search needs
 
 add-rest-requires : tie.Need-add-rest-requires
 add-rest-requires c κs =
-    let we = c .before in
+    let we = c .before .before in
     let re = we .before in
     let st = re .before .before .before in
-    (halving-of (st .pre .halving) (sym (re .rest-at .ensures)), we .weight-of .ensures .0)
+    (halving-of (st .pre .halving) (sym (re .rest-at .ensures)), search needs, we .weight-of .ensures .0)
 
 same-length : tie.Need-same-length
 same-length c = search needs
@@ -25,7 +25,7 @@ same-length c = search needs
 returns : tie.Need-returns
 returns c =
     let ad = c .before .before in
-    let re = ad .before .before .before in
+    let re = ad .before .before .before .before in
     let st = re .before .before .before in
     halving-comes (st .pre .halving) (re .rest-at .ensures) (ad .add-rest .last .1 .0) (ad .add-rest .result) (ad .add-rest .ensures)
 

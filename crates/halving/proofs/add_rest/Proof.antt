@@ -3,7 +3,6 @@ use mathlib.Core.Path.{_≡_, refl}
 use native.Mathlib.Omega.{arith}
 use lib.ListN.{length, take}
 use lib.Seq.{length-take-le}
-use Rattle.rules.specs.Limits.{typesMost}
 use Rattle.halving.proofs.Laws.{none-rests, rest-ready, rest-comes}
 use borrow.Author.Needs.{needs}
 use Rattle.halving.proofs.add_rest.Statement.{statement}
@@ -19,11 +18,8 @@ enum-known-b : tie.Need-enum-known-b
 enum-known-b c = search needs
 
 -- the rest has a count for each type
-rest-len : (c : tie.Start) → length (c .args .rest) ≡ typesMost
-rest-len c = search needs
-
-rest-length : (c : tie.Start) → length (take (c .args .job .count) (c .args .rest)) ≡ c .args .job .count
-rest-length c = length-take-le _ (c .args .rest) (omega (arith, rest-len c, c .pre .0 .ready .range .count))
+rest-length : (c : tie.Start) → length (take (c .args .job .count) (c .args .rest .now)) ≡ c .args .job .count
+rest-length c = length-take-le _ (c .args .rest .now) (omega (arith, c .pre .1, c .pre .0 .ready .range .count))
 
 add-pair-requires : tie.Need-add-pair-requires
 add-pair-requires c κs =

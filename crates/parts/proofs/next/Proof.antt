@@ -1,16 +1,17 @@
 -- `parts::next` meets its contract. The invariant: the counts before i could not go up, and have begun again. Assumes nothing.
-use Prim.Native.Nat.{_-_}
+use mathlib.Core.Path.{_≡_, refl, ap, ap₂}
+use Prim.Native.Nat.{_+_, _-_, _*_, _≤_, _<_}
 use native.Mathlib.Omega.{arith}
-use Rattle.parts.proofs.Portions.{Turning, turning-start, turning-more, turning-up, turning-end}
+use Rattle.parts.proofs.Portions.{light, below-end, count-weighs, Turning, turning-start, now-stuck, turning-again, turning-up, turning-end}
 use borrow.Author.Needs.{needs}
 use Rattle.parts.proofs.next.Statement.{statement}
 use Rattle.parts.proofs.next.Tie as tie
 
 abbrev Inv-loop : tie.InvT-loop
-Inv-loop counts types q₀ i₀ q i = Turning types counts q₀ q i
+Inv-loop part₀ rest₀ types counts weight₀ spare₀ i₀ part rest weight spare i = Turning types counts part₀ (record { part = part; rest = rest; weight = weight; spare = spare }) i
 
 abbrev μ-loop : tie.MeasureT-loop
-μ-loop counts types q₀ i₀ q i = types - i
+μ-loop part₀ rest₀ types counts weight₀ spare₀ i₀ part rest weight spare i = types - i
 
 loop-holds : tie.Need-loop-holds Inv-loop μ-loop
 loop-holds c = turning-start (c .pre .0)
@@ -18,47 +19,102 @@ loop-holds c = turning-start (c .pre .0)
 add-i : tie.Need-add-i Inv-loop μ-loop
 add-i c = search needs
 
+element-copy-out-may-rise : tie.Need-element-copy-out-may-rise Inv-loop μ-loop
+element-copy-out-may-rise c = search needs
+
 may-rise-requires : tie.Need-may-rise-requires Inv-loop μ-loop
 may-rise-requires c κs = search needs
 
+array-read-rise : tie.Need-array-read-rise Inv-loop μ-loop
+array-read-rise c = search needs
+
 rise-requires : tie.Need-rise-requires Inv-loop μ-loop
 rise-requires c κs =
-    let m = c .before in
-    let il = m .before in
+    let th = c .before .before in
+    let m = th .before in
+    let il = m .before .before in
     let at = il .before in
-    let r = m .may-rise .ensures .yes-if (c .if1 .taken) in
-    (record { of = at .loop .inv .of; among = omega (arith, il .loop-test .taken); spare = r .0; left = r .1 }, at .before .pre .1)
+    let r = m .may-rise .ensures .yes-if (th .if1 .taken) in
+    (omega (arith, il .loop-test .taken, at .before .pre .1), below-end (at .loop .inv .of) (at .before .pre .1) _ (omega (arith, il .loop-test .taken)) (r .1), r .1)
+
+weight-at-requires : tie.Need-weight-at-requires Inv-loop μ-loop
+weight-at-requires c κs = search needs
+
+add-t24 : tie.Need-add-t24 Inv-loop μ-loop
+add-t24 c =
+    let at = c .before .before .before .before .before .before .before .before in
+    omega (arith, light (at .loop .inv .of) (at .before .pre .1), c .weight-at .ensures .1)
+
+sub-t25 : tie.Need-sub-t25 Inv-loop μ-loop
+sub-t25 c =
+    let th = c .before .before .before .before in
+    omega (arith, th .before .may-rise .ensures .yes-if (th .if1 .taken) .0)
 
 returns : tie.Need-returns Inv-loop μ-loop
 returns c =
-    let il = c .before .before .before in
+    let ri = c .before in
+    let th = ri .before .before .before in
+    let m = th .before in
+    let il = m .before .before in
     let at = il .before in
-    turning-up (at .loop .inv) (at .before .pre .1) (omega (arith, il .loop-test .taken)) (c .rise .ensures)
+    let r = m .may-rise .ensures .yes-if (th .if1 .taken) in
+    turning-up (at .loop .inv) (at .before .pre .1) (omega (arith, il .loop-test .taken)) (ri .rise .ensures) _ (r .0) (r .1) (ap (λ w. at .loop .weight + w) (c .weight-at .ensures .0)) refl refl
+
+element-copy-out-wide : tie.Need-element-copy-out-wide Inv-loop μ-loop
+element-copy-out-wide c = search needs
+
+wide-requires : tie.Need-wide-requires Inv-loop μ-loop
+wide-requires c κs = search needs
+
+weight-at-requires-2 : tie.Need-weight-at-requires-2 Inv-loop μ-loop
+weight-at-requires-2 c κs = search needs
+
+-- what the count weighs is part of the weight
+weighs : (c : tie.After-weight-at2 Inv-loop μ-loop) → c .before .wide .result * c .weight-at2 .result ≤ c .before .before .before .before .before .before .before .loop .weight
+weighs c =
+    let wd = c .before in
+    let il = wd .before .before .before .before .before in
+    let at = il .before in
+    let e = ap₂ _*_ (wd .wide .ensures .0) (c .weight-at2 .ensures .0) in
+    omega (arith, count-weighs (at .loop .inv .of) (at .before .pre .1) (at .loop .i) (omega (arith, il .loop-test .taken)))
+
+mul-weight : tie.Need-mul-weight Inv-loop μ-loop
+mul-weight c =
+    let at = c .before .before .before .before .before .before .before in
+    omega (arith, weighs c, light (at .loop .inv .of) (at .before .pre .1))
+
+sub-weight : tie.Need-sub-weight Inv-loop μ-loop
+sub-weight c = weighs c
+
+add-spare : tie.Need-add-spare Inv-loop μ-loop
+add-spare c =
+    let wd = c .before in
+    let at = wd .before .before .before .before .before .before in
+    omega (arith, wd .wide .ensures .1, at .loop .inv .of .spares, at .loop .inv .of .small)
+
+array-read-begin-again : tie.Need-array-read-begin-again Inv-loop μ-loop
+array-read-begin-again c = search needs
 
 begin-again-requires : tie.Need-begin-again-requires Inv-loop μ-loop
-begin-again-requires c κs =
-    let il = c .before .before in
-    let at = il .before in
-    (at .loop .inv .of, omega (arith, il .loop-test .taken), at .before .pre .1)
+begin-again-requires c κs = search needs
 
 loop-less : tie.Need-loop-less Inv-loop μ-loop
 loop-less c = search needs
 
 loop-again : tie.Need-loop-again Inv-loop μ-loop
 loop-again c =
-    let m = c .before .before in
-    let il = m .before in
+    let w2 = c .before .before .before in
+    let wd = w2 .before in
+    let el = wd .before .before in
+    let m = el .before in
+    let il = m .before .before in
     let at = il .before in
-    turning-more (at .loop .inv) (at .before .pre .1) (omega (arith, il .loop-test .taken)) (m .may-rise .ensures .no-if (c .before .if1 .left)) (c .begin-again .ensures)
-
-ended-requires : tie.Need-ended-requires Inv-loop μ-loop
-ended-requires c κs = search needs
+    let i : at .loop .i < at .before .args .types = omega (arith, il .loop-test .taken) in
+    let e = c .begin-again .ensures in
+    turning-again (at .loop .inv) (at .before .pre .1) i (now-stuck (at .loop .inv) (at .before .pre .1) i (m .may-rise .ensures .no-if (el .if1 .left))) _ _ _ (wd .wide .ensures .0) (w2 .weight-at2 .ensures .0) refl (e .0) (e .1)
 
 returns-2 : tie.Need-returns-2 Inv-loop μ-loop
-returns-2 c =
-    let at = c .before .before in
-    let e = c .ended .ensures in
-    turning-end (at .loop .inv) (at .before .pre .1) (omega (arith, c .before .loop-test .left)) _ (e .0) (e .1) (e .2) (e .3) (e .4)
+returns-2 c = turning-end (c .before .loop .inv) (c .before .before .pre .1) (omega (arith, c .loop-test .left))
 
 pub next-spec : {M : Type 1} → statement M
 next-spec =
@@ -68,11 +124,22 @@ next-spec =
     μ-loop
     loop-holds
     add-i
+    element-copy-out-may-rise
     may-rise-requires
+    array-read-rise
     rise-requires
+    weight-at-requires
+    add-t24
+    sub-t25
     returns
+    element-copy-out-wide
+    wide-requires
+    weight-at-requires-2
+    mul-weight
+    sub-weight
+    add-spare
+    array-read-begin-again
     begin-again-requires
     loop-less
     loop-again
-    ended-requires
     returns-2)

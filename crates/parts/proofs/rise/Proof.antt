@@ -1,62 +1,48 @@
 -- `parts::rise` meets its contract. Assumes nothing.
-use mathlib.Core.Path.{refl}
+use mathlib.Core.Path.{refl, ap, _∙_}
+use Prim.Native.Nat.{_<_}
 use native.Mathlib.Omega.{arith}
-use Rattle.parts.proofs.Portions.{light, below-end, risen}
+use native.Mathlib.Numerals.{add-one}
+use lib.ListN.{set}
 use borrow.Author.Needs.{needs}
 use Rattle.parts.proofs.rise.Statement.{statement}
 use Rattle.parts.proofs.rise.Tie as tie
 
-array-read-up : tie.Need-array-read-up
-array-read-up c = search needs
-
-array-read-up-2 : tie.Need-array-read-up-2
-array-read-up-2 c = search needs
+element-copy-out-up : tie.Need-element-copy-out-up
+element-copy-out-up c = search needs
 
 up-requires : tie.Need-up-requires
-up-requires c κs = let st = c .before .before in below-end (st .pre .0 .of) (st .pre .1) _ (st .pre .0 .among) (st .pre .0 .left)
+up-requires c κs = search needs
 
-array-write-part : tie.Need-array-write-part
-array-write-part c = search needs
+element-write-part : tie.Need-element-write-part
+element-write-part c = search needs
 
-array-read-rest : tie.Need-array-read-rest
-array-read-rest c = search needs
+element-copy-out-rest : tie.Need-element-copy-out-rest
+element-copy-out-rest c = search needs
 
 sub-rest : tie.Need-sub-rest
 sub-rest c = search needs
 
-array-write-rest : tie.Need-array-write-rest
-array-write-rest c = search needs
+element-write-rest : tie.Need-element-write-rest
+element-write-rest c = search needs
 
-weight-at-requires : tie.Need-weight-at-requires
-weight-at-requires c κs = search needs
-
-add-t24 : tie.Need-add-t24
-add-t24 c =
-    let st = c .before .before .before .before .before in
-    omega (arith, light (st .pre .0 .of) (st .pre .1), c .before .weight-at .ensures .1)
-
-sub-t25 : tie.Need-sub-t25
-sub-t25 c = search needs
+byte : (c : tie.Start) → c .args .count < 256
+byte c = search needs
 
 returns : tie.Need-returns
 returns c =
-    let w = c .before .before in
-    let u = w .before in
-    let st = u .before .before .before in
-    risen (st .pre .0) (st .pre .1) _ _ _ (u .up .ensures .0) (search needs) (w .weight-at .ensures .0) refl
+    let st = c .before .before .before in
+    let u = c .before .up .ensures in
+    record { up = ap (set (st .args .part .now) (st .args .t)) (u .0 ∙ add-one _); down = refl; byte = omega (arith, u .0, u .1, byte st) }
 
 pub rise-spec : {M : Type 1} → statement M
 rise-spec =
     tie.close
     (tie.spec
-    array-read-up
-    array-read-up-2
+    element-copy-out-up
     up-requires
-    array-write-part
-    array-read-rest
+    element-write-part
+    element-copy-out-rest
     sub-rest
-    array-write-rest
-    weight-at-requires
-    add-t24
-    sub-t25
+    element-write-rest
     returns)

@@ -64,20 +64,23 @@ pub fn next(
 {
     let mut weight = from.weight;
     let mut spare = from.spare;
+    let mut next = weighing::FIRST_WEIGHT;
     let mut i = 0;
     while i < types {
         let at = i;
         i += 1;
+        let each = next;
+        next = weighing::next_weight(each);
         if may_rise(spare, rest[at]) {
             rise(part, rest, at, counts[at]);
             return Step {
-                weight: weight + weighing::weight_at(at),
+                weight: weight + each,
                 spare: spare - 1,
                 more: true,
             };
         }
         let count = tally::wide(part[at]);
-        weight -= count * weighing::weight_at(at);
+        weight -= count * each;
         spare += count as usize;
         begin_again(part, rest, at, counts[at]);
     }

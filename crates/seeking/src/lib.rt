@@ -22,7 +22,8 @@ fn place(start: usize, room: usize, long: u64, wide: u64) -> usize
     requires { ⌜ Placeable start room long wide ⌝ }
     ensures { λ r. ⌜ (r ≡ placeOf room start long wide) × (start ≤ r) × (r < room) ⌝ }
 {
-    let weight = long * weighing::weight_at(0) + wide * weighing::weight_at(1);
+    let second = weighing::next_weight(weighing::FIRST_WEIGHT);
+    let weight = long * weighing::FIRST_WEIGHT + wide * second;
     start + weighing::bucket(weight, room - start)
 }
 

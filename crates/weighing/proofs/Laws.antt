@@ -8,55 +8,65 @@ use native.Mathlib.Numerals.{add-one}
 use lib.Dec.{lit<}
 use lib.ListN.{length, getD, set, take, drop, length-take, drop-of-length-le}
 use lib.Seq.{drop-cons, getD-take}
-use Rattle.rules.specs.Bag.{sum, All, nil, cons}
+use Rattle.rules.specs.Bag.{sum}
 use Rattle.rules.specs.Job.{plus}
-use Rattle.weighing.specs.Weights.{weightMost, weights, weightOf, weighed, keyMost, spread}
-
-below-all : (l : List ℕ) → All (λ w. w < weightMost) l → (t : ℕ) → getD l t 0 < weightMost
-below-all [] h t = omega arith
-below-all (x ∷ l) (cons h k) zero = h
-below-all (x ∷ l) (cons h k) (suc t) = below-all l k t
-
-all-small : All (λ w. w < weightMost) weights
-all-small = cons (lit< tt) (cons (lit< tt) (cons (lit< tt) (cons (lit< tt) (cons (lit< tt) (cons (lit< tt) (cons (lit< tt) (cons (lit< tt) (cons (lit< tt) (cons (lit< tt) (cons (lit< tt) (cons (lit< tt) (nil))))))))))))
+use Rattle.weighing.specs.Weights.{weightMost, firstWeight, nextWeight, weightOf, weighed, keyMost, spread}
 
 pub weight-small : (t : ℕ) → weightOf t < weightMost
 unfolding weightOf
-weight-small t = below-all weights all-small t
+weight-small zero = lit< tt
+weight-small (suc t) = mod-lt _ (lit< tt)
+
+-- the weight of the next place
+pub weight-next : (t : ℕ) {w v : ℕ} → w ≡ weightOf t → v ≡ nextWeight w → v ≡ weightOf (t + 1)
+unfolding weightOf
+weight-next t e f = f ∙ ap nextWeight e ∙ ap weightOf (sym (add-one t))
+
+pub weight-first : firstWeight ≡ weightOf 0
+unfolding weightOf
+weight-first = refl
 
 -- what a byte weighs
 pub byte-weighs : {x w : ℕ} → x < 256 → w < weightMost → x * w ≤ keyMost
 byte-weighs {x} {w} a b = omega (arith, mul-le-mul {n₁ = x} {m₁ = w} {n₂ = 256} {m₂ = weightMost} (omega arith) (omega arith))
 
 -- as far as a key has been weighed
-pub record Weighing (types : ℕ) (c : List ℕ) (sum i : ℕ) : Type 0 where
+pub record Weighing (types : ℕ) (c : List ℕ) (sum each i : ℕ) : Type 0 where
   pub upto : i ≤ types
+  pub each-is : each ≡ weightOf i
   pub total : sum + weighed i (drop i (take types c)) ≡ weighed 0 (take types c)
   pub small : sum ≤ i * keyMost
 
-pub weighing-start : (types : ℕ) (c : List ℕ) → Weighing types c 0 0
-weighing-start types c = record { upto = omega arith; total = omega arith; small = omega arith }
+pub weighing-start : (types : ℕ) (c : List ℕ) → Weighing types c 0 firstWeight 0
+weighing-start types c = record { upto = omega arith; each-is = weight-first; total = omega arith; small = omega arith }
 
-pub weighing-more : {types : ℕ} {c : List ℕ} {sum i x : ℕ} → Weighing types c sum i → i < types → types ≤ length c → x ≡ getD c i 0 * weightOf i → x ≤ keyMost → Weighing types c (sum + x) (i + 1)
-unfolding weighed
-weighing-more {types} {c} {sum} {i} {x} h l m e y =
-    let k = take types c in
-    let g = drop-cons k i 0 (simp length-take (omega arith)) in
-    let d = getD-take types c i 0 l in
-    let f : weighed i (drop i k) ≡ getD c i 0 * weightOf i + weighed (suc i) (drop (suc i) k) = ap (weighed i) (g ∙ (λ j. d j ∷ drop (suc i) k)) in
-    let n = add-one i in
-    record {
-      upto = omega arith;
-      total = rw n (omega (arith, h .total));
-      small = omega (arith, h .small);
-    }
+module _ {types : ℕ} {c : List ℕ} {sum each i : ℕ} (h : Weighing types c sum each i) where
+  pub each-small : each < weightMost
+  each-small = omega (arith, h .each-is, weight-small i)
 
-pub weighing-end : {types : ℕ} {c : List ℕ} {sum i : ℕ} → Weighing types c sum i → types ≤ i → (sum ≡ weighed 0 (take types c)) × (sum ≤ types * keyMost)
-unfolding weighed
-weighing-end {types} {c} {sum} {i} h l =
-    let z : length (take types c) ≤ i = simp length-take (omega arith) in
-    let e : drop i (take types c) ≡ [] = drop-of-length-le (take types c) z in
-    (omega (arith, h .total, ap (weighed i) e), omega (arith, h .small, h .upto))
+  pub weighing-more : {x next : ℕ} → i < types → types ≤ length c → x ≡ getD c i 0 → x < 256 → next ≡ nextWeight each → Weighing types c (sum + x * each) next (i + 1)
+  unfolding weighed
+  weighing-more {x} {next} l m e y z =
+      let k = take types c in
+      let g = drop-cons k i 0 (simp length-take (omega arith)) in
+      let d = getD-take types c i 0 l in
+      let f : weighed i (drop i k) ≡ getD c i 0 * weightOf i + weighed (suc i) (drop (suc i) k) = ap (weighed i) (g ∙ (λ j. d j ∷ drop (suc i) k)) in
+      let p : x * each ≡ getD c i 0 * weightOf i = λ j. e j * h .each-is j in
+      let b = byte-weighs y each-small in
+      let n = add-one i in
+      record {
+        upto = omega arith;
+        each-is = weight-next i (h .each-is) z;
+        total = rw n (omega (arith, h .total));
+        small = omega (arith, h .small);
+      }
+
+  pub weighing-end : types ≤ i → (sum ≡ weighed 0 (take types c)) × (sum ≤ types * keyMost)
+  unfolding weighed
+  weighing-end l =
+      let z : length (take types c) ≤ i = simp length-take (omega arith) in
+      let e : drop i (take types c) ≡ [] = drop-of-length-le (take types c) z in
+      (omega (arith, h .total, ap (weighed i) e), omega (arith, h .small, h .upto))
 
 -- keys that add up weigh together what each weighs
 pub weighed-plus : (t : ℕ) (a b : List ℕ) → length a ≡ length b → weighed t (plus a b) ≡ weighed t a + weighed t b

@@ -1,18 +1,22 @@
 -- What the numbers of a key weigh together, and the bucket of a weight. Assumes nothing.
 use mathlib.Core.List.{List, [], _∷_}
-use Prim.Native.Nat.{ℕ, suc, _+_, _*_, _/_, _%_}
-use lib.ListN.{getD}
+use Prim.Native.Nat.{ℕ, zero, suc, _+_, _*_, _/_, _%_}
 
 -- weights are below
 abbrev pub weightMost : ℕ
 weightMost = 4_294_967_296
 
--- what one unit of each number of a key weighs
-abbrev pub weights : List ℕ
-weights = 2_654_435_769 ∷ 2_246_822_507 ∷ 3_266_489_909 ∷ 668_265_263 ∷ 374_761_393 ∷ 2_654_435_761 ∷ 3_550_635_117 ∷ 4_252_000_965 ∷ 3_042_594_569 ∷ 2_376_512_323 ∷ 3_625_333_825 ∷ 3_407_524_639 ∷ []
+-- what one unit of a key's first number weighs, and of the number behind one that weighs so much
+abbrev pub firstWeight : ℕ
+firstWeight = 2_654_435_769
 
+abbrev pub nextWeight : ℕ → ℕ
+nextWeight w = w * 2_246_822_519 % weightMost
+
+-- what one unit of the number at place t weighs
 unfoldable pub weightOf : ℕ → ℕ
-weightOf t = getD weights t 0
+weightOf zero = firstWeight
+weightOf (suc t) = nextWeight (weightOf t)
 
 -- the numbers of a key, the first of them at place t
 unfoldable pub weighed : ℕ → List ℕ → ℕ

@@ -5,32 +5,21 @@ ghost use mathlib.Core.Path.{_≡_};
 ghost use Prim.Native.Nat.{_*_, _≤_, _<_};
 ghost use lib.ListN.{take};
 ghost use Rattle.rules.specs.Limits.{typesMost, recordsMost};
-ghost use Rattle.weighing.specs.Weights.{weightMost, weightOf, weighed, spread, keyMost};
+ghost use Rattle.weighing.specs.Weights.{weightMost, nextWeight, weighed, spread, keyMost};
 
-// Odd numbers that have no more in common than any: so keys spread over the buckets.
-const WEIGHTS: [u64; TYPES_MOST] = [
-    2_654_435_769,
-    2_246_822_507,
-    3_266_489_909,
-    668_265_263,
-    374_761_393,
-    2_654_435_761,
-    3_550_635_117,
-    4_252_000_965,
-    3_042_594_569,
-    2_376_512_323,
-    3_625_333_825,
-    3_407_524_639,
-];
+// What one unit of a key's first number weighs; each number behind it weighs so many times as much, as far as weights go. Both are odd and large, so that keys spread over the buckets.
+pub const FIRST_WEIGHT: u64 = 2_654_435_769;
+
+const FACTOR: u64 = 2_246_822_519;
 
 const WEIGHT_MOST: u64 = 4_294_967_296;
 
-// What one piece of type t weighs, counted from 0; or one unit of the number at place t of any key.
-pub fn weight_at(t: usize) -> u64
-    requires { ⌜ t < typesMost ⌝ }
-    ensures { λ r. ⌜ (r ≡ weightOf t) × (r < weightMost) ⌝ }
+// What a unit of the next number of a key weighs.
+pub fn next_weight(weight: u64) -> u64
+    requires { ⌜ weight < weightMost ⌝ }
+    ensures { λ r. ⌜ (r ≡ nextWeight weight) × (r < weightMost) ⌝ }
 {
-    WEIGHTS[t]
+    weight * FACTOR % WEIGHT_MOST
 }
 
 // What these counts weigh, for a job of so many types.
@@ -39,9 +28,11 @@ pub fn weight_of(counts: [u8; TYPES_MOST], types: usize) -> u64
     ensures { λ r. ⌜ (r ≡ weighed 0 (take types counts)) × (r ≤ types * keyMost) ⌝ }
 {
     let mut sum: u64 = 0;
+    let mut each = FIRST_WEIGHT;
     let mut i = 0;
     while i < types {
-        sum += tally::wide(counts[i]) * weight_at(i);
+        sum += tally::wide(counts[i]) * each;
+        each = next_weight(each);
         i += 1;
     }
     sum

@@ -14,9 +14,6 @@ use Rattle.classes.proofs.lacks_type.Tie as tie
 less-requires : tie.Need-less-requires
 less-requires c κs = search needs
 
-weight-at-requires : tie.Need-weight-at-requires
-weight-at-requires c κs = search needs
-
 counts-len : (c : tie.Start) → length (c .args .counts) ≡ typesMost
 counts-len c = search needs
 
@@ -28,14 +25,14 @@ sought c =
 
 sub-find-weighed : tie.Need-sub-find-weighed
 sub-find-weighed c =
-    let st = c .before .before .before .before in
-    less-weighs (st .args .counts) (st .pre .3) (omega (arith, counts-len st, st .pre .1)) (st .pre .4) (st .pre .2) (c .weight-at .ensures .0) .0
+    let st = c .before .before .before in
+    less-weighs (st .args .counts) (st .pre .3) (omega (arith, counts-len st, st .pre .1)) (st .pre .4) (st .pre .2) (st .pre .5) .0
 
 find-weighed-requires : tie.Need-find-weighed-requires
 find-weighed-requires c κs =
-    let le = c .before .before in
+    let le = c .before in
     let st = le .before .before in
-    (st .pre .0, st .pre .1, search needs, less-weighs (st .args .counts) (st .pre .3) (omega (arith, counts-len st, st .pre .1)) (st .pre .4) (st .pre .2) (c .weight-at .ensures .0) .1 ∙ ap (λ v. weighed 0 (take (st .args .types) v)) (sym (le .less .ensures)))
+    (st .pre .0, st .pre .1, search needs, less-weighs (st .args .counts) (st .pre .3) (omega (arith, counts-len st, st .pre .1)) (st .pre .4) (st .pre .2) (st .pre .5) .1 ∙ ap (λ v. weighed 0 (take (st .args .types) v)) (sym (le .less .ensures)))
 
 enum-told : tie.Need-enum-told
 enum-told c = search needs
@@ -47,20 +44,19 @@ returns : tie.Need-returns
 returns c =
     let fi = c .before .before in
     let at = rw (c .enum-told .given .1) at (fi .find-weighed .ensures) in
-    record { yes-if = λ e. absurd (true≢false (sym e)); no-if = λ _. (c .enum-told .given .0 .0, omega (arith, at .0 .some, at .0 .ends), at .1 ∙ sought (fi .before .before .before)) }
+    record { yes-if = λ e. absurd (true≢false (sym e)); no-if = λ _. (c .enum-told .given .0 .0, omega (arith, at .0 .some, at .0 .ends), at .1 ∙ sought (fi .before .before)) }
 
 returns-2 : tie.Need-returns-2
 returns-2 c =
     let fi = c .before .before in
     let none = rw (c .enum-told2 .given .1) at (fi .find-weighed .ensures) in
-    record { yes-if = λ _ q l e. none q l (e ∙ sym (sought (fi .before .before .before))); no-if = λ e. absurd (true≢false e) }
+    record { yes-if = λ _ q l e. none q l (e ∙ sym (sought (fi .before .before))); no-if = λ e. absurd (true≢false e) }
 
 pub lacks-type-spec : {M : Type 1} → statement M
 lacks-type-spec =
     tie.close
     (tie.spec
     less-requires
-    weight-at-requires
     sub-find-weighed
     find-weighed-requires
     enum-told

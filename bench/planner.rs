@@ -1,55 +1,29 @@
-//! The library's planner beside plain Rust: of the same method, class by class, and joining all pairs. Milliseconds of processor time, and ratios.
+//! The library's planner beside plain Rust: class by class, the fastest that we know, and joining all pairs. Milliseconds of processor time, and ratios.
 //! That all find the same number of outlines and the same best one is asserted on each job, and that the checker accepts each plan.
 //!
-//! planner FOLDER [--no-all-pairs] [--slow-library]: FOLDER has the published jobs.
+//! planner FOLDER [--no-all-pairs]: FOLDER has the published jobs.
 //!   --no-all-pairs   leaves out joining all pairs in Rust
-//!   --slow-library   for a library that joins all pairs: a run of it that takes over a second has one turn; the longest strip is left out, and of a family what comes behind such a run
+//! Built with `--cfg before` there is an older library beside this one (bench/run planner --before).
+use jobs::Job;
 use measure::{by_turns, Taken};
 use peers::peer;
 use peers::planner_peer::{self, Answer, Record, RECORDS_MOST, RECORD_BYTES};
 
-const SECOND: f64 = 1e6;
-
-struct Job {
-    name: String,
-    text: String,
-}
-
-impl Job {
-    fn of(name: &str, sheet: [u64; 2], types: &[[u64; 4]]) -> Job {
-        let lines: String = types.iter().map(|[l, w, p, b]| format!("{l} {w} {p} {b}\n")).collect();
-        Job { name: name.to_string(), text: format!("1\n{} {} 0\n{}\n{lines}", sheet[0], sheet[1], types.len()) }
-    }
-
-    /// L, W, k, n and the types' numbers.
-    fn numbers(&self) -> Vec<u64> {
-        self.text.split_whitespace().skip(1).map(|n| n.parse().unwrap()).collect()
-    }
-}
-
-fn published(folder: &str, file: &str, name: &str) -> Job {
-    let path = format!("{folder}/{file}.job");
-    Job { name: name.to_string(), text: std::fs::read_to_string(&path).expect(&path) }
-}
-
-/// A sheet of 100 by 1 and types of 1 by 1: any counts within the demands are an outline.
-fn strip(demands: &[u64]) -> Job {
-    let types: Vec<_> = demands.iter().map(|&b| [1, 1, 1, b]).collect();
-    let told: Vec<_> = demands.iter().map(|b| b.to_string()).collect();
-    Job::of(&format!("strip, demands {}", told.join(", ")), [100, 1], &types)
-}
+/// A run that takes longer has one turn.
+const PATIENCE: f64 = 1e6;
 
 #[derive(Clone, Copy, PartialEq)]
 enum By {
     Library,
     Classes,
     AllPairs,
+    #[cfg(before)]
+    Before,
 }
 
-/// A planner with what is lent to it, what it answered last, and how long a run of it may take to be repeated.
+/// A planner with what is lent to it, and what it answered last.
 struct Planner {
     by: By,
-    patience: f64,
     bytes: Vec<u8>,
     records: Vec<Record>,
     buffer: Vec<u64>,
@@ -57,9 +31,10 @@ struct Planner {
 }
 
 impl Planner {
-    fn new(by: By, patience: f64) -> Planner {
-        let (bytes, records) = if by == By::Library { (RECORDS_MOST * RECORD_BYTES, 0) } else { (0, RECORDS_MOST) };
-        Planner { by, patience, bytes: vec![0; bytes], records: vec![Record::default(); records], buffer: vec![0; varandeco::PLAN_NUMBERS], answer: [0; 7] }
+    fn new(by: By) -> Planner {
+        let in_rust = matches!(by, By::Classes | By::AllPairs);
+        let (bytes, records) = if in_rust { (0, RECORDS_MOST) } else { (RECORDS_MOST * RECORD_BYTES, 0) };
+        Planner { by, bytes: vec![0; bytes], records: vec![Record::default(); records], buffer: vec![0; varandeco::PLAN_NUMBERS], answer: [0; 7] }
     }
 
     fn plan(&mut self, job: &Job) {
@@ -67,6 +42,8 @@ impl Planner {
             By::Library => self.by_library(job),
             By::Classes => self.by_peer(job, planner_peer::class_by_class),
             By::AllPairs => self.by_peer(job, planner_peer::all_pairs),
+            #[cfg(before)]
+            By::Before => self.by_library_before(job),
         }
     }
 
@@ -77,21 +54,31 @@ impl Planner {
         }
     }
 
-    fn by_peer(&mut self, job: &Job, list: planner_peer::Method) -> Answer {
-        planner_peer::plan(peer::job_of_text(job.text.as_bytes()), &mut self.records, &mut self.buffer, list)
+    #[cfg(before)]
+    fn by_library_before(&mut self, job: &Job) -> Answer {
+        extern "C" {
+            fn varandeco_plan_text_before(text: *const u8, text_length: usize, arena: *mut u8, arena_length: usize, plan: *mut u64, plan_length: usize, answer: *mut u64, answer_length: usize) -> u64;
+        }
+        let (text, arena, plan, mut answer) = (job.text.as_bytes(), &mut self.bytes, &mut self.buffer, [0; 7]);
+        // SAFETY: as in the crate varandeco, four slices of which those that are written overlap no other.
+        unsafe {
+            varandeco_plan_text_before(text.as_ptr(), text.len(), arena.as_mut_ptr(), arena.len(), plan.as_mut_ptr(), plan.len(), answer.as_mut_ptr(), answer.len());
+        }
+        answer
     }
 
-    fn list(&self) -> &[u64] {
-        &self.buffer[..3 * self.answer[5] as usize]
+    fn by_peer(&mut self, job: &Job, method: planner_peer::Method) -> Answer {
+        planner_peer::plan(peer::job_of_text(job.text.as_bytes()), &mut self.records, &mut self.buffer, method)
     }
 
     /// How many pieces of each type the plan has; the checker accepts it with the profit of the answer.
     fn counts(&self, job: &Job) -> Vec<usize> {
+        let list = &self.buffer[..3 * self.answer[5] as usize];
         if self.answer[0] == 0 {
-            let accepted = varandeco::check_numbers(&job.numbers(), self.list()).expect(&job.name);
+            let accepted = varandeco::check_numbers(&job.numbers(), list).expect(&job.name);
             assert_eq!((accepted.profit, accepted.pieces), (self.answer[2], self.answer[5]), "{}", job.name);
         }
-        (1..=peer::TYPES as u64).map(|t| self.list().chunks_exact(3).filter(|p| p[0] == t).count()).collect()
+        (1..=peer::TYPES as u64).map(|t| list.chunks_exact(3).filter(|p| p[0] == t).count()).collect()
     }
 }
 
@@ -99,8 +86,6 @@ impl Planner {
 struct Found {
     answer: Answer,
     times: Vec<(By, Taken)>,
-    /// The library wrote the same placements as the peer of its method.
-    same_plan: Option<bool>,
 }
 
 impl Found {
@@ -130,76 +115,79 @@ fn told_ratio(ratio: Option<f64>) -> String {
 }
 
 /// All planners on a job, by turns.
-fn measure_job(job: &Job, planners: &mut [&mut Planner]) -> Found {
-    let mut runs: Vec<_> = planners.iter_mut().map(|p| (p.patience, || p.plan(job))).collect();
+fn measure_job(job: &Job, planners: &mut [Planner]) -> Found {
+    let mut runs: Vec<_> = planners.iter_mut().map(|p| (PATIENCE, || p.plan(job))).collect();
     let taken = by_turns(&mut runs);
     let first = &planners[0];
     for p in planners.iter() {
         assert_eq!((p.answer, p.counts(job)), (first.answer, first.counts(job)), "{}", job.name);
     }
-    let library = planners.iter().find(|p| p.by == By::Library && p.answer[0] == 0);
-    let same_plan = library.map(|p| p.list() == first.list());
-    Found { answer: first.answer, times: planners.iter().map(|p| p.by).zip(taken).collect(), same_plan }
+    Found { answer: first.answer, times: planners.iter().map(|p| p.by).zip(taken).collect() }
 }
 
-/// What is asked of the library on a job: how many times the time of Rust class by class it may take, and how many times faster than Rust joining all pairs it has to be.
-struct Bars {
-    most: Option<f64>,
-    faster: Option<f64>,
+/// How many times the time of Rust joining all pairs the library may take on any job.
+const ALL_PAIRS_BAR: f64 = 1.1;
+
+/// How many bars were held, and how many missed.
+#[derive(Default)]
+struct Tally {
+    held: usize,
+    missed: usize,
 }
 
-impl Bars {
-    fn told(&self, found: &Found) -> String {
-        let held = |held: bool| if held { "held" } else { "missed" };
-        let most = self.most.and_then(|bar| found.ratio(By::Library, By::Classes).map(|r| format!("at most {bar:.1}: {}", held(r <= bar))));
-        let faster = self.faster.and_then(|bar| found.ratio(By::AllPairs, By::Library).map(|r| format!("at least {bar} times faster: {}", held(r >= bar))));
-        told(most.into_iter().chain(faster).reduce(|a, b| format!("{a}; {b}")))
+impl Tally {
+    fn told(&mut self, what: &str, ratio: f64, bar: f64) -> String {
+        let held = ratio <= bar;
+        if held {
+            self.held += 1;
+        } else {
+            self.missed += 1;
+        }
+        format!("{what} at most {bar:.1}: {}", if held { "held" } else { "missed" })
     }
 }
 
 struct Bench {
-    library: Planner,
-    classes: Planner,
-    all_pairs: Option<Planner>,
-    slow_library: bool,
+    planners: Vec<Planner>,
+    tally: Tally,
 }
 
 impl Bench {
-    fn table(&mut self, jobs: &[(Job, Bars)]) {
-        println!("| job | N | library, ms | Rust class by class, ms | ratio | Rust all pairs, ms | library faster, times | Rust class by class faster, times | same plan | bars |");
-        println!("|---|---|---|---|---|---|---|---|---|---|");
-        for (job, bars) in jobs {
-            let mut planners = vec![&mut self.classes];
-            if !(self.slow_library && job.name.ends_with(LONGEST)) {
-                planners.push(&mut self.library);
-            }
-            planners.extend(&mut self.all_pairs);
-            let f = measure_job(job, &mut planners);
-            let cells = [
-                f.milliseconds(By::Library),
-                f.milliseconds(By::Classes),
-                told_ratio(f.ratio(By::Library, By::Classes)),
-                f.milliseconds(By::AllPairs),
-                told_ratio(f.ratio(By::AllPairs, By::Library)),
-                told_ratio(f.ratio(By::AllPairs, By::Classes)),
-                told(f.same_plan.map(|same| if same { "yes" } else { "no" }.to_string())),
-                bars.told(&f),
-            ];
-            println!("| {} | {} | {} |", job.name, f.outlines(), cells.join(" | "));
+    /// The bar is how many times the time of Rust class by class the library may take.
+    fn table(&mut self, name: &str, jobs: &[Job], bar: f64) {
+        println!("\n### {name}\n");
+        let (mut names, mut line) = ("| job | N | library, ms | Rust class by class, ms | ratio | Rust all pairs, ms | ratio | bars |".to_string(), "|---|---|---|---|---|---|---|---|".to_string());
+        if cfg!(before) {
+            names.push_str(" library before, ms | times faster |");
+            line.push_str("---|---|");
+        }
+        println!("{names}\n{line}");
+        for job in jobs {
+            let f = measure_job(job, &mut self.planners);
+            println!("| {} | {} | {} |", job.name, f.outlines(), self.cells(&f, bar).join(" | "));
         }
     }
 
+    fn cells(&mut self, f: &Found, bar: f64) -> Vec<String> {
+        let ratios = [By::Classes, By::AllPairs].map(|by| f.ratio(By::Library, by));
+        let bars = ratios.into_iter().zip([("class by class", bar), ("all pairs", ALL_PAIRS_BAR)]);
+        let bars: Vec<_> = bars.filter_map(|(ratio, (what, bar))| ratio.map(|r| self.tally.told(what, r, bar))).collect();
+        let mut cells = vec![f.milliseconds(By::Library)];
+        for (by, ratio) in [By::Classes, By::AllPairs].into_iter().zip(ratios) {
+            cells.extend([f.milliseconds(by), told_ratio(ratio)]);
+        }
+        cells.push(bars.join("; "));
+        #[cfg(before)]
+        cells.extend([f.milliseconds(By::Before), told_ratio(f.ratio(By::Before, By::Library))]);
+        cells
+    }
+
     /// Jobs that have more and more outlines; behind a time stands the power of N by which it grew, and in the last line the power from the first to the last.
-    fn family(&mut self, jobs: &[Job]) {
-        println!("\n| job | N | library, ms | power of N | Rust class by class, ms | power of N | ratio |\n|---|---|---|---|---|---|---|");
+    fn growth(&mut self, name: &str, jobs: &[Job]) {
+        println!("\n### {name}\n\n| job | N | library, ms | power of N | Rust class by class, ms | power of N | ratio |\n|---|---|---|---|---|---|---|");
         let mut found: Vec<Found> = vec![];
         for job in jobs {
-            let mut planners = vec![&mut self.classes];
-            let slow = found.last().map_or(false, |b| b.time(By::Library).map_or(true, |t| t.median() > SECOND));
-            if !(self.slow_library && slow) {
-                planners.push(&mut self.library);
-            }
-            let f = measure_job(job, &mut planners);
+            let f = measure_job(job, &mut self.planners[..LIBRARY_AND_CLASSES]);
             let cell = |by: By| format!("{} | {}", f.milliseconds(by), told(found.last().and_then(|b| power(by, b, &f))));
             println!("| {} | {} | {} | {} | {} |", job.name, f.outlines(), cell(By::Library), cell(By::Classes), told_ratio(f.ratio(By::Library, By::Classes)));
             found.push(f);
@@ -215,36 +203,27 @@ fn power(by: By, from: &Found, to: &Found) -> Option<String> {
     Some(format!("{:.1}", time.ln() / (to.answer[6] as f64 / from.answer[6] as f64).ln()))
 }
 
-/// How the longest strip's name ends.
-const LONGEST: &str = "14, 15, 15, 16";
+/// These planners come first.
+const LIBRARY_AND_CLASSES: usize = 2;
 
 fn main() {
     let words: Vec<String> = std::env::args().skip(1).collect();
-    let asked = |word: &str| words.iter().any(|w| w == word);
     let folder = words.first().expect("the folder of the published jobs");
-    let slow_library = asked("--slow-library");
-    let mut bench = Bench {
-        library: Planner::new(By::Library, if slow_library { SECOND } else { f64::INFINITY }),
-        classes: Planner::new(By::Classes, f64::INFINITY),
-        all_pairs: if asked("--no-all-pairs") { None } else { Some(Planner::new(By::AllPairs, SECOND)) },
-        slow_library,
-    };
-    let bars = |most, faster| Bars { most, faster };
-    println!("## Planning\n");
-    bench.table(&[
-        (published(folder, "P3", "OF1"), bars(Some(2.0), Some(20.0))),
-        (published(folder, "P4", "OF2"), bars(Some(2.0), Some(20.0))),
-        (published(folder, "P1", "P1"), bars(None, None)),
-        (published(folder, "P7", "P7"), bars(Some(2.0), None)),
-        (published(folder, "P8", "P8"), bars(Some(2.0), None)),
-        (published(folder, "PG1", "PG1"), bars(Some(2.0), None)),
-        (published(folder, "PG4", "PG4, which fills the arena"), bars(None, None)),
-        (strip(&[2, 22, 28]), bars(None, None)),
-        (strip(&[14, 15, 15, 16]), bars(None, Some(1.0))),
-    ]);
+    let mut planners = vec![Planner::new(By::Library), Planner::new(By::Classes)];
+    if !words.iter().any(|w| w == "--no-all-pairs") {
+        planners.push(Planner::new(By::AllPairs));
+    }
+    #[cfg(before)]
+    planners.push(Planner::new(By::Before));
+    let mut bench = Bench { planners, tally: Tally::default() };
+    println!("## Planning");
+    bench.table("Published jobs", &jobs::published(folder), 2.0);
+    bench.table("Large classes", &jobs::large_classes(), 1.5);
+    bench.table("Kitchens", &jobs::kitchens(), 1.5);
+    bench.table("Strips", &jobs::strips(), 1.5);
     println!("\n## How the time grows with N");
-    let of1 = published(folder, "P3", "OF1").numbers();
-    let types: Vec<_> = of1[4..].chunks_exact(4).map(|t| [t[0], t[1], t[2], t[3]]).collect();
-    bench.family(&[42, 46, 50, 54, 58, 62, 66, 70, 74].map(|length| Job::of(&format!("OF1 on {length} by {}", of1[1]), [length, of1[1]], &types)));
-    bench.family(&[5, 7, 9, 11, 13].map(|d| strip(&[d; 4])));
+    for (name, jobs) in jobs::growing(folder) {
+        bench.growth(name, &jobs);
+    }
+    println!("\nBars: {} held, {} missed.", bench.tally.held, bench.tally.missed);
 }

@@ -108,6 +108,15 @@ impl Case {
         Ok((job, list.to_vec()))
     }
 
+    /// The job of a case that plans one which is in range.
+    pub fn job_to_plan(&self) -> Option<Job> {
+        match self.kind {
+            1 => text::read_job(&self.payload).ok(),
+            3 => Job::from_numbers(&self.numbers().ok()?.0).ok(),
+            _ => None,
+        }
+    }
+
     /// What is expected of the case.
     pub fn expected(&self) -> Result<Expected, String> {
         let planned = |job: Result<Job, Refusal>| {

@@ -7,13 +7,16 @@ use std::iter;
 use crate::cases::{line, Case};
 use crate::job::{Job, JobNumbers, Refusal};
 use crate::outlines::Outlines;
+use crate::planner::MOST_RECORDS;
 use crate::rng::Rng;
 use crate::{text, topdown};
 
+mod boards;
 mod drawings;
 mod faults;
 mod jobs;
 
+use boards::{board, turning_job};
 use drawings::drawing;
 use faults::{damage_list, damage_text, miscounted_text, spoil_some, spoilt_count};
 use jobs::{large_job, planner_job, random_job};
@@ -81,27 +84,43 @@ fn section<const N: usize>(text: &mut String, lines: &[[u64; N]]) {
 }
 
 /// A source of cases of one kind, 1 to 4 as in `cases`; 5: a case of kind 1
-/// whose job has many outlines.
+/// whose job has many outlines; 6 and 7: a case of kind 1 or 3 whose job has a
+/// class above 1,000 outlines, or classes of the sizes where sorts change.
 pub struct Generator {
     kind: u8,
     rng: Rng,
+    /// Cases of the last job that are still to come.
+    waiting: Vec<Case>,
 }
 
 impl Generator {
     pub fn new(kind: u8, seed: u64) -> Self {
         // Different kinds with one seed should not walk in step.
         let rng = Rng::new(seed ^ u64::from(kind) << 56);
-        Generator { kind, rng }
+        Generator {
+            kind,
+            rng,
+            waiting: Vec::new(),
+        }
     }
 
     pub fn case(&mut self) -> Case {
+        if let Some(case) = self.waiting.pop() {
+            return case;
+        }
         let rng = &mut self.rng;
         match self.kind {
             1 => plan_text(rng),
             2 => Case::check(2, plan_list_text(rng)),
             3 => plan_numbers(rng),
             4 => Case::check(4, list_numbers(rng)),
-            _ => plan_large(rng),
+            5 => plan_large(rng),
+            6 => {
+                let (first, others) = plan_board(rng);
+                self.waiting = others;
+                first
+            }
+            _ => plan_turning(rng),
         }
     }
 }
@@ -137,6 +156,39 @@ fn plan_text(rng: &mut Rng) -> Case {
 fn plan_large(rng: &mut Rng) -> Case {
     let draft = large_job(rng);
     lend(rng, draft.job().ok(), 30_000, 1, draft.text(false))
+}
+
+/// A job with a large class, in arenas around N and in one that is full in the
+/// midst of such a class.
+fn plan_board(rng: &mut Rng) -> (Case, Vec<Case>) {
+    let board = board(rng);
+    let (kind, payload) = text_or_numbers(rng, &board.draft);
+    let mut rooms = vec![board.room_within_large_class(rng)];
+    match board.outlines() {
+        all @ ..=MOST_RECORDS => rooms.extend([all, *rng.pick(&[all - 1, all + 1])]),
+        _ => rooms.push(MOST_RECORDS),
+    }
+    let mut cases = rooms.into_iter().map(|room| {
+        let arena = 32 * room as u64 + *rng.pick(&[0, 0, 1, 31]);
+        lend_bytes(rng, arena, board.pieces, kind, payload.clone())
+    });
+    let first = cases.next().expect("an arena at least");
+    (first, cases.collect())
+}
+
+/// A job with classes of sizes where sorts change, or with many classes.
+fn plan_turning(rng: &mut Rng) -> Case {
+    let draft = turning_job(rng);
+    let (kind, payload) = text_or_numbers(rng, &draft);
+    lend(rng, draft.job().ok(), 3_000, kind, payload)
+}
+
+/// The job as the payload of a case of kind 1 or 3.
+fn text_or_numbers(rng: &mut Rng, draft: &Draft) -> (u8, Vec<u8>) {
+    match rng.below(2) {
+        0 => (1, draft.text(false)),
+        _ => (3, line(&flat(&draft.numbers(rng))).into_bytes()),
+    }
 }
 
 /// Kind 3: a job as numbers, with arena and buffer.
@@ -227,6 +279,12 @@ fn lend(rng: &mut Rng, job: Option<Job>, most: usize, kind: u8, payload: Vec<u8>
         _ if known.is_some() && rng.one_in(8) => 32 * 65_535 + rng.below(100),
         _ => 32 * outlines + 320,
     };
+    lend_bytes(rng, arena, pieces, kind, payload)
+}
+
+/// Adds an arena of so many bytes, filled with anything, and a buffer that is
+/// just enough or just too small for the pieces.
+fn lend_bytes(rng: &mut Rng, arena: u64, pieces: u64, kind: u8, payload: Vec<u8>) -> Case {
     let buffer = match rng.below(20) {
         0..=5 => 3 * pieces,
         6 | 7 => 3 * pieces - 1,
@@ -250,6 +308,7 @@ fn lend(rng: &mut Rng, job: Option<Job>, most: usize, kind: u8, payload: Vec<u8>
 mod tests {
     use super::*;
     use crate::cases::Expected;
+    use crate::classes::Census;
     use std::collections::BTreeMap;
 
     /// How often each answer comes up among the cases of a kind.
@@ -280,6 +339,41 @@ mod tests {
             assert!(census.keys().eq(numbers), "{census:?}");
             assert!(census.values().all(|&often| often >= 60), "{census:?}");
         }
+    }
+
+    fn cases(kind: u8, count: usize) -> Vec<Case> {
+        let mut generator = Generator::new(kind, 5);
+        iter::repeat_with(|| generator.case()).take(count).collect()
+    }
+
+    /// Most cases have a large class, and many an arena that is full within one.
+    #[test]
+    fn boards_have_large_classes() {
+        let classes = Census::of(&cases(6, 60));
+        println!("kind 6: {classes:?}");
+        assert!(classes.large >= 50 && classes.cut >= 20, "{classes:?}");
+        let numbers = census(6, 60);
+        assert!(numbers.keys().eq(&[0, 4, 5]), "{numbers:?}");
+    }
+
+    /// Every job has a class of 11, 12, 13, 24 or 25 outlines, each often, or many
+    /// classes.
+    #[test]
+    fn classes_where_sorts_change() {
+        let mut often: BTreeMap<usize, usize> = BTreeMap::new();
+        let mut many = 0;
+        for case in cases(7, 300) {
+            let job = case.job_to_plan().unwrap();
+            let outlines = Outlines::up_to(&job, usize::MAX);
+            let classes = outlines.classes();
+            many += usize::from(classes.len() >= 200);
+            for size in [1, 2, 11, 12, 13, 24, 25] {
+                *often.entry(size).or_default() += usize::from(classes.contains(&size));
+            }
+        }
+        println!("kind 7: {often:?}, {many} with many classes");
+        assert!(often.values().all(|&jobs| jobs >= 50), "{often:?}");
+        assert!(many >= 50, "{many}");
     }
 
     #[test]

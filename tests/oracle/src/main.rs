@@ -10,6 +10,8 @@
 //! oracle gen KIND SEED COUNT           writes COUNT random cases of a kind
 //! oracle tables                        writes the rows of document 01 as cases
 //! oracle tables large|strips           writes rows around 65,535 outlines
+//! oracle tables classes                writes rows by the size of their classes
+//! oracle classes CASES                 prints how large the cases' classes are
 //! oracle answers CASES                 prints the expected answer lines
 //! oracle verify CASES ANSWERS          compares answer lines with the expected
 //! oracle cross SEED COUNT              plans random jobs by both methods
@@ -17,6 +19,7 @@
 
 mod cases;
 mod checker;
+mod classes;
 mod gen;
 mod job;
 mod outlines;
@@ -65,7 +68,7 @@ fn run(arguments: &[String]) -> Result<bool, Box<dyn Error>> {
         ["plan", records] => plan_program(records.parse()?, PLACEMENTS, out)?,
         ["plan", records, placements] => plan_program(records.parse()?, placements.parse()?, out)?,
         ["check"] => check_program(out)?,
-        ["gen", kind @ ("1" | "2" | "3" | "4" | "5"), seed, count] => {
+        ["gen", kind @ ("1" | "2" | "3" | "4" | "5" | "6" | "7"), seed, count] => {
             let mut generator = gen::Generator::new(kind.parse()?, seed.parse()?);
             for _ in 0..count.parse::<u64>()? {
                 generator.case().write(out)?;
@@ -75,6 +78,12 @@ fn run(arguments: &[String]) -> Result<bool, Box<dyn Error>> {
         ["tables"] => write_rows(&tables::rows(), out)?,
         ["tables", "large"] => write_rows(&tables::large_rows(), out)?,
         ["tables", "strips"] => write_rows(&tables::strip_rows(), out)?,
+        ["tables", "classes"] => write_rows(&tables::class_rows(), out)?,
+        ["classes", cases] => {
+            let census = classes::Census::of(&Case::read_all(&fs::read(cases)?)?);
+            writeln!(out, "{}", census.line())?;
+            true
+        }
         ["answers", cases] => {
             for case in Case::read_all(&fs::read(cases)?)? {
                 writeln!(out, "{}", cases::answer(&case)?)?;
@@ -86,7 +95,7 @@ fn run(arguments: &[String]) -> Result<bool, Box<dyn Error>> {
             cases::verify(&cases, &String::from_utf8_lossy(&fs::read(answers)?), out)?
         }
         ["cross", seed, count] => cross(seed.parse()?, count.parse()?, out)?,
-        _ => return Err("plan | check | gen | tables | answers | verify | cross".into()),
+        _ => return Err("plan | check | gen | tables | classes | answers | verify | cross".into()),
     };
     out.flush()?;
     Ok(agreed)

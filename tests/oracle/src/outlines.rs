@@ -7,7 +7,7 @@
 //! both ways. Vectors are taken by their total number of pieces, rising; both
 //! parts of a split then have been done before.
 
-use std::collections::{BTreeSet, HashMap};
+use std::collections::{BTreeSet, HashMap, HashSet};
 use std::hash::{BuildHasherDefault, Hash, Hasher};
 use std::iter;
 
@@ -111,6 +111,7 @@ impl Hasher for QuickHasher {
 
 pub type QuickHash = BuildHasherDefault<QuickHasher>;
 pub type QuickMap<K, V> = HashMap<K, V, QuickHash>;
+pub type QuickSet<K> = HashSet<K, QuickHash>;
 
 /// One outline: "Builds that agree in length, width and the count of every type
 /// are one outline."
@@ -121,20 +122,30 @@ pub struct Outline {
     pub counts: Counts,
 }
 
-/// The outlines of one job.
+/// The outlines of one job. Those that have the same counts are a class.
 pub struct Outlines<'j> {
     job: &'j Job,
     sizes: QuickMap<Counts, Vec<Size>>,
     number: usize,
+    /// How many outlines each class has, as they were listed.
+    classes: Vec<usize>,
 }
 
 impl<'j> Outlines<'j> {
     /// All outlines of the job, unless there are more than `room`.
     pub fn within(job: &'j Job, room: usize) -> Option<Self> {
+        let outlines = Outlines::up_to(job, room);
+        (outlines.number <= room).then_some(outlines)
+    }
+
+    /// The outlines of the job, class by class; the class that goes beyond `room`
+    /// is the last one.
+    pub fn up_to(job: &'j Job, room: usize) -> Self {
         let mut outlines = Outlines {
             job,
             sizes: QuickMap::default(),
             number: 0,
+            classes: Vec::new(),
         };
         // "One piece whose grown size fits the sheet is a build."
         let singles: Vec<usize> = (0..job.types.len())
@@ -144,10 +155,7 @@ impl<'j> Outlines<'j> {
         for (&t, &counts) in singles.iter().zip(&level) {
             outlines.add(counts, vec![job.types[t].grown]);
         }
-        while !level.is_empty() {
-            if outlines.number > room {
-                return None;
-            }
+        while !level.is_empty() && outlines.number <= room {
             // Only vectors with one piece more than a vector that has builds
             // need be tried: taking a piece out of a build, and putting what it
             // was joined with in the place of the join, leaves a build that is
@@ -167,16 +175,17 @@ impl<'j> Outlines<'j> {
                     level.push(counts);
                     outlines.add(counts, sizes);
                     if outlines.number > room {
-                        return None;
+                        return outlines;
                     }
                 }
             }
         }
-        Some(outlines)
+        outlines
     }
 
     fn add(&mut self, counts: Counts, sizes: Vec<Size>) {
         self.number += sizes.len();
+        self.classes.push(sizes.len());
         self.sizes.insert(counts, sizes);
     }
 
@@ -188,7 +197,8 @@ impl<'j> Outlines<'j> {
     /// if length ≤ L, width ≤ W and, type by type, the added counts do not
     /// exceed the demand." The caller has seen to the demand.
     fn joined_sizes(&self, counts: Counts) -> Vec<Size> {
-        let mut found = Vec::new();
+        // A class of thousands comes from millions of joins, most of them alike.
+        let mut found = QuickSet::default();
         for (a, b) in counts.splits() {
             for &one in self.sizes_of(a) {
                 for &other in self.sizes_of(b) {
@@ -197,14 +207,20 @@ impl<'j> Outlines<'j> {
                 }
             }
         }
-        found.sort_unstable();
-        found.dedup();
-        found
+        let mut sizes: Vec<Size> = found.into_iter().collect();
+        sizes.sort_unstable();
+        sizes
     }
 
     /// "N is the number of different outlines of the job."
     pub fn number(&self) -> usize {
         self.number
+    }
+
+    /// How many outlines each class has, in the order in which they are listed:
+    /// classes of fewer pieces first.
+    pub fn classes(&self) -> &[usize] {
+        &self.classes
     }
 
     /// "The best outline has the greatest profit; among those the least length,

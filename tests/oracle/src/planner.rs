@@ -5,10 +5,13 @@ use crate::job::{Job, Refusal};
 use crate::outlines::{Outline, Outlines};
 use crate::{pairs, strips, topdown};
 
+/// The most records that are ever used.
+pub const MOST_RECORDS: usize = 65_535;
+
 /// "Its room is its length divided by 32, rounded down, and at most 65,535
 /// records."
 pub fn arena_room(bytes: u64) -> usize {
-    (bytes / 32).min(65_535) as usize
+    (bytes / 32).min(MOST_RECORDS as u64) as usize
 }
 
 /// "its room is its length divided by 3, rounded down."

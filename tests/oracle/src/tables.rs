@@ -3,6 +3,10 @@
 
 use crate::cases::Case;
 
+mod classes;
+
+pub use classes::class_rows;
+
 pub struct Row {
     /// What the row is about.
     #[cfg_attr(not(test), allow(dead_code))]

@@ -1,14 +1,17 @@
 //! The two planners against each other, the planner against the checker, and
 //! every row of the tables.
 
+use std::collections::BTreeMap;
+
 use crate::cases::{answer, compare, verify, Case};
 use crate::checker::{can_be_parted, can_be_parted_by_definition, check, Area, Placement};
+use crate::classes::{Census, Lodged, LARGE};
 use crate::gen::{small_jobs, Generator};
 use crate::job::{Job, JobNumbers, Refusal};
-use crate::outlines::Outlines;
-use crate::planner::plan;
+use crate::outlines::{Counts, Outlines};
+use crate::planner::{plan, MOST_RECORDS};
 use crate::rng::Rng;
-use crate::tables::{large_rows, rows, strip_rows, Row};
+use crate::tables::{class_rows, large_rows, rows, strip_rows, Row};
 use crate::{pairs, strips, text, topdown};
 
 fn agree(row: &Row) {
@@ -33,6 +36,93 @@ fn rows_of_the_document() {
 fn rows_with_many_outlines() {
     large_rows().iter().for_each(agree);
     strip_rows().iter().for_each(agree);
+}
+
+#[test]
+fn rows_with_large_classes() {
+    class_rows().iter().for_each(agree);
+    let cases: Vec<Case> = class_rows().into_iter().map(|row| row.case).collect();
+    let census = Census {
+        cases: 31,
+        large: 21,
+        cut: 9,
+        largest: 6_701,
+    };
+    assert_eq!(Census::of(&cases), census);
+}
+
+/// The jobs of the rows by their classes, each once.
+fn class_jobs() -> Vec<Job> {
+    let mut cases: Vec<Case> = class_rows().into_iter().map(|row| row.case).collect();
+    cases.dedup_by(|a, b| a.payload == b.payload);
+    let jobs = cases.iter().map(Case::job_to_plan);
+    jobs.collect::<Option<_>>().unwrap()
+}
+
+/// Class by class, N and the best outline once more, on jobs with large classes
+/// and with classes of the sizes where a sort changes its method.
+#[test]
+fn classes_by_joining_everything() {
+    let mut met: Vec<usize> = Vec::new();
+    for job in class_jobs() {
+        let Some(outlines) = Outlines::within(&job, 20_000) else {
+            continue;
+        };
+        let all = pairs::outlines(&job);
+        let mut joined: BTreeMap<Counts, usize> = BTreeMap::new();
+        for outline in &all {
+            *joined.entry(outline.counts).or_default() += 1;
+        }
+        let mut joined: Vec<usize> = joined.into_values().collect();
+        let mut classes = outlines.classes().to_vec();
+        joined.sort_unstable();
+        classes.sort_unstable();
+        assert_eq!(classes, joined, "{job:?}");
+        assert_eq!(outlines.number(), all.len(), "{job:?}");
+        assert_eq!(outlines.best(), pairs::best(all), "{job:?}");
+        met.extend(classes);
+    }
+    for size in [1, 2, 11, 12, 13, 24, 25] {
+        assert!(met.contains(&size), "no class of {size} outlines");
+    }
+    // Squares of 49 and of 50, and the seven parts.
+    let large: Vec<usize> = met.into_iter().filter(|&class| class > LARGE).collect();
+    assert_eq!(large, [1_027, 1_074, 1_817]);
+}
+
+/// The listing ends with the class that goes beyond the room, and is the same
+/// up to there.
+#[test]
+fn outlines_up_to_a_room() {
+    for job in small_jobs(12).take(500) {
+        let all = Outlines::up_to(&job, usize::MAX);
+        let number: usize = all.classes().iter().sum();
+        assert_eq!(all.number(), number);
+        for room in [0, 1, number / 2, number.saturating_sub(1), number] {
+            let some = Outlines::up_to(&job, room);
+            assert!(all.classes().starts_with(some.classes()), "{job:?}");
+            assert_eq!(some.number() <= room, number <= room);
+            assert_eq!(Outlines::within(&job, room).is_some(), number <= room);
+        }
+    }
+}
+
+#[test]
+fn classes_in_an_arena() {
+    let lodged = |room| {
+        let Lodged { largest, cut } = Lodged::in_arena(&[1, 1, 4, 7, 3], room);
+        (largest, cut)
+    };
+    assert_eq!(lodged(0), (0, None));
+    assert_eq!(lodged(1), (1, None));
+    assert_eq!(lodged(3), (1, Some(4)));
+    assert_eq!(lodged(6), (4, None));
+    assert_eq!(lodged(7), (4, Some(7)));
+    assert_eq!(lodged(12), (6, Some(7)));
+    assert_eq!(lodged(13), (7, None));
+    assert_eq!(lodged(15), (7, Some(3)));
+    assert_eq!(lodged(16), (7, None));
+    assert_eq!(lodged(MOST_RECORDS), (7, None));
 }
 
 /// "The planner: profit 7, outline 3 by 3, counts 1, 2, 1."

@@ -227,12 +227,7 @@ pub fn size_at(arena: &[u8], i: usize, way: usize) -> u64
 }
 
 // Record i has these counts, for a job of so many types.
-pub fn counts_at(
-    arena: &[u8],
-    i: usize,
-    counts: &[u8; TYPES_MOST],
-    types: usize,
-) -> bool
+pub fn counts_at(arena: &[u8], i: usize, counts: &[u8; TYPES_MOST], types: usize) -> bool
     requires { ⌜ (i < roomOf (length (now arena))) × (length (now counts) ≡ typesMost) × (types ≤ typesMost) ⌝ }
     ensures { λ r. ⌜ r ≡ sameList (take types (now (counts .entry))) (take types (recordAt (now (arena .entry)) i .outline .counts)) ⌝ }
 {

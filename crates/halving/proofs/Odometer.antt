@@ -50,7 +50,7 @@ portion-whole {types} {counts} {p} h few e =
     let lw = length-plus (take types (p .part)) (take types (p .rest)) ls in
     ext-getD 0 (rules.plus (take types (p .part)) (take types (p .rest))) (take types counts) (lw ∙ lp ∙ sym lc)
     (λ k l. let m : k < types = omega arith in
-        omega (arith, digit-plus k (take types (p .part)) (take types (p .rest)) ls, getD-take types (p .part) k 0 m, getD-take types (p .rest) k 0 m, getD-take types counts k 0 m, h .adds k m))
+    omega (arith, digit-plus k (take types (p .part)) (take types (p .rest)) ls, getD-take types (p .part) k 0 m, getD-take types (p .rest) k 0 m, getD-take types counts k 0 m, h .adds k m))
 
 -- what the rest weighs
 pub rest-weighs : {job : Job} {part rest : List ℕ} {share weight : ℕ} → PartWeighs job part rest share weight → job .count ≤ typesMost → (share ≤ weight) × (weight - share ≡ weighed 0 (take (job .count) rest))

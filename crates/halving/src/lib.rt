@@ -15,7 +15,7 @@ ghost use Rattle.growing.specs.Growing.{Comes};
 ghost use Rattle.halving.specs.Halves.{wholeWith, wholeOf, Halving, Within, ClassPairs, PartWeighs, Trying, PartPairs, Sought, PairsBefore};
 
 // So many records are passed in the time that it takes to look a part up.
-const DEARER: usize = 8;
+const DEARER: usize = 3;
 
 // Joins class a with the class of the rest, whose counts weigh so much, if there is one.
 fn add_rest(

@@ -98,10 +98,11 @@ loop-again c =
     let g = rw (c .before .m .given .1) at (d .add-next .ensures) in
     let e = sym (en .end-of .ensures .0) in
     let t = d .add-next .last .1 .0 in
-    let m = c .before .m .given .0 .0 in
-    (subst (Queued (st .args .job) _ _) e (queue-next (at .loop .inv .0) (il .loop-test .taken) g),
-    subst (λ k. k < m → HalvesAt (st .args .job) (st .args .least) t m (suc (piecesAt (st .args .job) t k)) (ha .half-of .result)) e (queue-halves (at .loop .inv .0) (il .loop-test .taken) (pa .pieces-at .ensures .0) (ha .half-of .ensures .halves) g),
-    g .same-length ∙ at .loop .inv .2)
+    let m = c .before .m .given .0 .0 in (
+      subst (Queued (st .args .job) _ _) e (queue-next (at .loop .inv .0) (il .loop-test .taken) g),
+      subst (λ k. k < m → HalvesAt (st .args .job) (st .args .least) t m (suc (piecesAt (st .args .job) t k)) (ha .half-of .result)) e (queue-halves (at .loop .inv .0) (il .loop-test .taken) (pa .pieces-at .ensures .0) (ha .half-of .ensures .halves) g),
+      g .same-length ∙ at .loop .inv .2,
+    )
 
 same-length-2 : tie.Need-same-length-2 Inv-loop μ-loop
 same-length-2 c = c .before .loop .inv .2

@@ -10,6 +10,10 @@
  * (every part of its pieces is an outline too), so up to 21 KB. Checking a list of 600 placements takes up to 160 KB, and a plan text of 600 up to 220 KB
  * (two calls nested for each piece, the most that there can be). Lists of fewer pieces take less: 21 KB, or 80 KB for a text, and 230 bytes a piece.
  *
+ * TIME. Planning takes time that grows with the outlines, and most where a sheet is thin or square, the types are few and the demands high. Measured on x86-64, with
+ * 65,535 records: 15 ms for a plain job of 36,595 outlines, and up to 0.75 s, fifty times that, on the slowest jobs that a search found; with 2,000 records 0.5 ms and up
+ * to 22 ms. A watchdog has to allow for these and for the machine; they are found, and no bound. Checking 600 pieces takes up to some 10 ms.
+ *
  * SLICES. A slice is a pointer and the number of its elements (not bytes). Its pointer may be NULL where its length is 0. Otherwise it points to that
  * many elements, aligned as their type asks; a slice that is not const overlaps no other slice of the call. A const slice is only read.
  * Every length has an answer, 0 too.

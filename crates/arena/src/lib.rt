@@ -19,13 +19,13 @@ use shapes::{RECORD_BYTES, RECORDS_MOST, TYPES_MOST};
 use tally::BOUNDS;
 
 // A piece of a type, numbered from 1, or a join of two records that stand before.
-#[derive(Drop)]
+#[derive(Clone, Copy)]
 pub enum How {
     Piece(usize),
     Joined(Way, usize, usize),
 }
 
-#[derive(Drop)]
+#[derive(Clone, Copy)]
 pub struct Record {
     pub outline: Outline,
     pub how: How,
@@ -45,7 +45,7 @@ const KIND_AT: usize = 20;
 const LINKS_AT: usize = 22;
 
 // `How` in numbers: 0 for a piece, 1 for a join beside, 2 for a join above.
-#[derive(Drop)]
+#[derive(Clone, Copy)]
 pub struct Link {
     pub kind: u8,
     pub first: usize,

@@ -35,7 +35,7 @@ fn with_digit(n: u64, d: u64) -> u64 {
 }
 
 // A number and the place behind its last digit.
-#[derive(Drop)]
+#[derive(Clone, Copy)]
 pub struct Number {
     pub value: u64,
     pub next: usize,
@@ -57,7 +57,7 @@ fn read_number(s: &[u8], at: usize) -> Number {
 }
 
 // How many numbers were read, and the place behind the last one.
-#[derive(Drop)]
+#[derive(Clone, Copy)]
 pub struct Row {
     pub count: usize,
     pub next: usize,
@@ -166,7 +166,7 @@ pub fn job_of(numbers: [u64; JOB_NUMBERS]) -> Job {
 }
 
 // A header's numbers and where its case's bytes begin.
-#[derive(Drop)]
+#[derive(Clone, Copy)]
 pub struct Header {
     pub understood: bool,
     pub kind: u64,

@@ -10,7 +10,7 @@ ghost use Rattle.jobs.specs.Item.{item_place, types_out, LineOut};
 use shapes::{DEMAND_MOST, Job, KERF_MOST, PROFIT_MOST, PieceType, SIZE_MOST, TYPES_MOST};
 
 // The first item out of range, if there is one.
-#[derive(Drop)]
+#[derive(Clone, Copy)]
 pub enum Item {
     Fine,
     Out(usize),

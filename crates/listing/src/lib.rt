@@ -24,7 +24,7 @@ use outlines::Listed;
 use shapes::{Job, TYPES_MOST};
 
 // Of the classes before `passed`, which have at most half of the pieces that classes now get, those that join at all stand before `tried`.
-#[derive(Drop)]
+#[derive(Clone, Copy)]
 pub struct Halves {
     pub passed: usize,
     pub tried: usize,

@@ -10,14 +10,14 @@ ghost use Rattle.shapes.specs.Handed.{JobInRange};
 
 use shapes::{Job, TYPES_MOST};
 
-#[derive(Drop)]
+#[derive(Clone, Copy)]
 pub struct Along(pub u64);
 
-#[derive(Drop)]
+#[derive(Clone, Copy)]
 pub struct Across(pub u64);
 
 // Counts of types past those of the job are never read.
-#[derive(Drop)]
+#[derive(Clone, Copy)]
 pub struct Outline {
     pub length: Along,
     pub width: Across,
@@ -25,7 +25,7 @@ pub struct Outline {
 }
 
 // How two outlines are put together: `Beside` is the horizontal build, `Above` the vertical one.
-#[derive(Drop)]
+#[derive(Clone, Copy)]
 pub enum Way {
     Beside,
     Above,
@@ -183,7 +183,7 @@ fn smaller(a: u64, b: u64) -> u64
 }
 
 // Sizes below which no piece of a job is, and so no build.
-#[derive(Drop)]
+#[derive(Clone, Copy)]
 pub struct Least {
     pub length: u64,
     pub width: u64,

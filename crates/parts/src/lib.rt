@@ -8,7 +8,7 @@ ghost use Rattle.parts.specs.Parts.{digit, portion, PortionOf, MayRise, Risen, S
 use shapes::TYPES_MOST;
 
 // What a part weighs, how many pieces more it may have, and whether it is one, or all have been.
-#[derive(Drop)]
+#[derive(Clone, Copy)]
 pub struct Step {
     pub weight: u64,
     pub spare: usize,

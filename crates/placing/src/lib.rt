@@ -12,7 +12,7 @@ ghost use Rattle.placing.specs.Place.{entry_at, HoldsOf, FirstAt, OfJob, Typed, 
 use shapes::{Job, PLACEMENT_NUMBERS, PieceType, Placement, TYPES_MOST, placements_in};
 
 // The first place of a list at which a test holds.
-#[derive(Drop)]
+#[derive(Clone, Copy)]
 pub enum Place {
     At(usize),
     Nowhere,

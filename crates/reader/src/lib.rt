@@ -13,7 +13,7 @@ pub const SPACE: u8 = 32;
 pub const LF: u8 = 10;
 
 // A number with the position behind it, or the place where the text leaves the grammar.
-#[derive(Drop)]
+#[derive(Clone, Copy)]
 pub enum Numeral {
     Is(u64, usize),
     IsNot(usize),
@@ -78,7 +78,7 @@ pub fn count_at(text: &[u8], at: usize) -> Numeral
 }
 
 // The one reading position, with the text that it walks.
-#[derive(Drop)]
+#[derive(Clone, Copy)]
 pub struct Reader<'a> {
     pub text: &'a [u8],
     pub at: usize,

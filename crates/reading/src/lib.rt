@@ -13,14 +13,14 @@ use reader::{LF, Numeral, SPACE, number_at};
 use shapes::{Job, PIECES_MOST, PLAN_NUMBERS, PieceType, TYPES_MOST};
 
 // Where the reading position has come: behind what was asked for, or to the place where the text leaves the grammar.
-#[derive(Drop)]
+#[derive(Clone, Copy)]
 pub enum Walk {
     To(usize),
     Stops(usize),
 }
 
 // The numbers of a line, in front of the array.
-#[derive(Drop)]
+#[derive(Clone, Copy)]
 struct LineRead {
     walk: Walk,
     numbers: [u64; 4],
@@ -99,7 +99,7 @@ fn skip_section(text: &[u8], from: usize, w: usize) -> Walk
 }
 
 // A sheet line `L W k`.
-#[derive(Drop)]
+#[derive(Clone, Copy)]
 struct Sheet {
     length: u64,
     width: u64,
@@ -107,7 +107,7 @@ struct Sheet {
 }
 
 // The sheet and piece sections: how far the walk came, the sheet count, and the job, where the sheet count is 1.
-#[derive(Drop)]
+#[derive(Clone, Copy)]
 pub struct Sections {
     pub walk: Walk,
     pub sheets: u64,
@@ -139,7 +139,7 @@ pub fn no_job() -> Job
     }
 }
 
-#[derive(Drop)]
+#[derive(Clone, Copy)]
 struct PieceLines {
     walk: Walk,
     types: [PieceType; TYPES_MOST],
@@ -325,7 +325,7 @@ fn placement_lines(text: &[u8], from: usize, n: usize, numbers: &mut [u64]) -> W
 }
 
 // The placement section: how far the walk came, the count, and the flat numbers, where the count is in range.
-#[derive(Drop)]
+#[derive(Clone, Copy)]
 pub struct Placements {
     pub walk: Walk,
     pub count: u64,

@@ -16,7 +16,7 @@ use shapes::{CheckVerdict, Job, PIECES_MOST, PLACEMENT_NUMBERS, Placement, Refus
 const FLAT_MOST: usize = PLACEMENT_NUMBERS * PIECES_MOST;
 
 // What was found so far: nothing, or a refusal that no later placement can make later in the table's order.
-#[derive(Drop)]
+#[derive(Clone, Copy)]
 pub enum Found {
     Clean,
     OutOfRange(usize),
@@ -26,7 +26,7 @@ pub enum Found {
 }
 
 // The placements seen so far. While the list is clean it is short, and its counts and its flat numbers are kept.
-#[derive(Drop)]
+#[derive(Clone, Copy)]
 pub struct Scan {
     pub job: Job,
     pub found: Found,

@@ -168,6 +168,7 @@ asked_lines (suc n) w s {vs} a =
     omega (arith, r.0, asked_lines n w s r.1, length-drop w vs)
 
 asked_whole : (vs : List ℕ) → Asked (section 3 (section 4 end)) vs → out_of_range vs ≡ none → Whole vs
+asked_whole [] a e = elim a [ ]
 asked_whole (c ∷ vs) (one a) e =
     let k = this (kept 0 (ranges (piece_count (c ∷ vs))) (c ∷ vs) e) in
     let z : c ≡ 1 = omega (arith, k.low, k.high) in
@@ -178,6 +179,7 @@ asked_whole (c ∷ vs) (one a) e =
     go [] h b = absurd (omega arith)
     go (l ∷ []) h b = absurd (omega arith)
     go (l ∷ w ∷ []) h b = absurd (omega arith)
+    go (l ∷ w ∷ k ∷ []) h b = elim b [ ]
     go (l ∷ w ∷ k ∷ n ∷ us) h (one b) = record { items = omega (arith, asked_lines n 4 end b) }
 
 pub text_in_range : {t vs : List ℕ} → Text job_text t vs → out_of_range vs ≡ none → InRange (numbers_from vs)

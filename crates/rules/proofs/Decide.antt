@@ -84,7 +84,7 @@ not_found ps [] e = nil
 not_found ps (q ∷ qs) e =
     let t = try_none along (far along q) ps (try across (far across q) ps (look ps qs)) e in
     let u = try_none across (far across q) ps (look ps qs) t.1 in
-    cons {x = q} (λ w. elim w [ along ↦ t.0 | across ↦ u.0 ]) (not_found ps qs u.1)
+    cons {x = q} (λ w. elim w as (λ w. is_cut w (far w q) ps ≡ false) [ along ↦ t.0 | across ↦ u.0 ]) (not_found ps qs u.1)
 
 -- cut wherever a cut is found; n bounds how deep
 abbrev pub parts : ℕ → List Box → Bool

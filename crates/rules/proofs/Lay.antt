@@ -74,7 +74,7 @@ module _ {j : Job} (pos : All Positive j.singles) where
       let pw = p.wide in
       record {
         known = cons {x = put s x y} (record { of = m; inside = record { left = omega arith; right = omega arith; low = omega arith; high = omega arith } }) nil;
-        thick = cons {x = put s x y} (λ w. elim w [ along ↦ omega arith | across ↦ omega arith ]) nil;
+        thick = cons {x = put s x y} (λ w. elim w as (λ w. near w (put s x y).box < far w (put s x y).box) [ along ↦ omega arith | across ↦ omega arith ]) nil;
         counts = refl;
         parted = few {bs = boxes (put s x y ∷ [])} (omega arith);
         some = omega arith;

@@ -39,7 +39,7 @@ pub const INPUT_ROOM: usize = INPUT_MOST + 1;
 pub const PROGRAM_ARENA: usize = PROGRAM_RECORDS * RECORD_BYTES;
 
 // A piece type: a line `l w p b`.
-#[derive(Drop)]
+#[derive(Clone, Copy)]
 pub struct PieceType {
     pub length: u64,
     pub width: u64,
@@ -48,7 +48,7 @@ pub struct PieceType {
 }
 
 // A job handed over as numbers: the sheet `L W k`, a piece count, and room for all types; those past the count are not read.
-#[derive(Drop)]
+#[derive(Clone, Copy)]
 pub struct Job {
     pub length: u64,
     pub width: u64,
@@ -58,7 +58,7 @@ pub struct Job {
 }
 
 // A placement `type x y`.
-#[derive(Drop)]
+#[derive(Clone, Copy)]
 pub struct Placement {
     pub kind: u64,
     pub x: u64,
@@ -73,7 +73,7 @@ pub fn placements_in(numbers: usize) -> usize
 }
 
 // Why an input is refused, with the place where the refusal table gives one. `number_of` and `place_of` of specs/Answer say it in the table's numbers.
-#[derive(Drop)]
+#[derive(Clone, Copy)]
 pub enum Refusal {
     NotInGrammar(usize),
     OutOfRange(usize),
@@ -89,7 +89,7 @@ pub enum Refusal {
 }
 
 // What the planner says of the best outline: its profit, sizes and pieces, and N.
-#[derive(Drop)]
+#[derive(Clone, Copy)]
 pub struct Plan {
     pub profit: u64,
     pub length: u64,
@@ -99,33 +99,33 @@ pub struct Plan {
 }
 
 // What the checker says of an accepted list.
-#[derive(Drop)]
+#[derive(Clone, Copy)]
 pub struct Drawing {
     pub profit: u64,
     pub pieces: u64,
 }
 
-#[derive(Drop)]
+#[derive(Clone, Copy)]
 pub enum PlanVerdict {
     Done(Plan),
     NoPlan(Refusal),
 }
 
-#[derive(Drop)]
+#[derive(Clone, Copy)]
 pub enum CheckVerdict {
     Accepted(Drawing),
     Rejected(Refusal),
 }
 
 // An answer in the numbers of the refusal table, as the programs print it and the library hands it out.
-#[derive(Drop)]
+#[derive(Clone, Copy)]
 pub struct PlanLine {
     pub number: u64,
     pub place: u64,
     pub plan: Plan,
 }
 
-#[derive(Drop)]
+#[derive(Clone, Copy)]
 pub struct CheckLine {
     pub number: u64,
     pub place: u64,

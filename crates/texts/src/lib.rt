@@ -13,14 +13,14 @@ use reading::Walk;
 use shapes::{Job, PIECES_MOST, PLACEMENT_NUMBERS, Refusal};
 
 // Whether a text is fine.
-#[derive(Drop)]
+#[derive(Clone, Copy)]
 pub enum Told {
     Fine,
     Refused(Refusal),
 }
 
 // What a job text holds: its job, or no job where it is refused.
-#[derive(Drop)]
+#[derive(Clone, Copy)]
 pub struct JobText {
     pub told: Told,
     pub job: Job,
@@ -76,7 +76,7 @@ pub fn read_job(text: &[u8]) -> JobText
 }
 
 // What a plan text holds: its job, and how many placements stand in the lent buffer; no job and none where it is refused.
-#[derive(Drop)]
+#[derive(Clone, Copy)]
 pub struct PlanText {
     pub told: Told,
     pub job: Job,

@@ -7,14 +7,14 @@ ghost use Rattle.unfolding.specs.Laying.{Near, IsNext, Placeable, IsNode, Layabl
 use arena::How;
 use outline::{Outline, Way};
 
-#[derive(Drop)]
+#[derive(Clone, Copy)]
 pub struct Corner {
     pub x: u64,
     pub y: u64,
 }
 
 // A record with its corner at a place: a piece of a type, or two halves and the corner of the second.
-#[derive(Drop)]
+#[derive(Clone, Copy)]
 pub struct Node {
     pub joined: bool,
     pub kind: u64,

@@ -21,7 +21,7 @@ const SHEET_NUMBERS: usize = 3;
 const PIECE_NUMBERS: usize = 4;
 
 // What a writer answers.
-#[derive(Drop)]
+#[derive(Clone, Copy)]
 pub enum Written {
     // Written, and this is the place behind the last byte.
     To(usize),
@@ -32,7 +32,7 @@ pub enum Written {
 }
 
 // Digits that were made back to front: they stand from `from` to the end.
-#[derive(Drop)]
+#[derive(Clone, Copy)]
 struct Scratch {
     bytes: [u8; SCRATCH_PLACES],
     from: usize,
@@ -97,7 +97,7 @@ fn digit_count(n: u64) -> usize
 }
 
 // Where numbers end that are written from some place on, each with the byte behind it.
-#[derive(Drop)]
+#[derive(Clone, Copy)]
 enum Place {
     At(usize),
     Beyond,

@@ -3,6 +3,7 @@
 // A bytes that all hold F and a plan buffer of B numbers; kind 2 checks a plan text and kind 4 a flat list for a job handed over as numbers.
 // Each case gets one line: the answer, and for a plan what is in the arena (0 zeros, 1 all F, 2 else) and every number of the buffer.
 // The run ends at the first case that is not understood or does not fit. What is tested is in the crates below; here numbers are read and printed.
+#![tactic(auto)]
 ghost use Rattle.std.specs.Prelude.{◌≡◌, length};
 
 use cases::{Header, JOB_NUMBERS};

@@ -1,6 +1,7 @@
 // Outlines by value: a length along the sheet, a width across it, and a count of each type.
 // Whoever joins, compares or stores builds calls this crate. The two joins are methods that hand back the joined outline,
 // and lengths and widths are types of their own, so that no join can add a width to a length.
+#![tactic(auto)]
 ghost use Rattle.std.specs.Prelude.{◌≡◌, ◌+◌, ◌%◌, ◌<◌, max, min, take};
 ghost use Rattle.rules.specs.Job.{horizontal, vertical};
 ghost use Rattle.rules.proofs.Bridge.{join};

@@ -1,6 +1,7 @@
 // The planner on texts: from a job text, or a program's input, to the planner's answer, in a lent arena and a lent plan buffer.
 // The program `plan` and the static library call it. It promises the refusal table's answer on every sequence of bytes:
 // 11 for an input that is too long, then 1, 2, 3, 4, 5, or the best plan; and what stands in arena and plan buffer afterwards.
+#![tactic(auto)]
 ghost use Rattle.rules.specs.Answers.{PlanText, PlanInput};
 ghost use Rattle.shapes.specs.Answer.{plan_answer};
 

@@ -1,5 +1,6 @@
 // The program "check": reads a plan text from standard input and prints `number place profit pieces`.
 // Everything that matters is in `checktext` and `writing`; what stands here reads, calls and writes.
+#![tactic(auto)]
 use libc::{STDIN_FILENO, STDOUT_FILENO};
 use shapes::INPUT_ROOM;
 use writing::Written;

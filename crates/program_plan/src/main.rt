@@ -1,6 +1,7 @@
 // The program "plan": reads a job text from standard input and prints `number place profit length width pieces N`,
 // and on number 0 the placement section. Its arena is one zeroed byte array for 2,000 records, its plan buffer has 600 placements.
 // Everything that matters is in `plantext` and `writing`; what stands here reads, calls and writes.
+#![tactic(auto)]
 use libc::{STDIN_FILENO, STDOUT_FILENO};
 use plantext::plan_input;
 use shapes::{INPUT_ROOM, PIECES_MOST, PLACEMENT_NUMBERS, PLAN_NUMBERS, PROGRAM_ARENA};

@@ -1,6 +1,8 @@
 // A number at a place of a text, and a small reader that holds the text and the place.
 // The crate `reading` walks the sections of a text with it. It promises the number that stands at a place, with the place behind it,
 // or the place where the text leaves the grammar.
+#![tactic(auto)]
+
 ghost use Rattle.std.specs.Prelude.{◌≡◌, ◌&&◌, ◌-◌, ◌≤◌, ◌<◌};
 ghost use Rattle.rules.proofs.Reading.{is_digit, room};
 ghost use Rattle.reader.specs.Number.{number_at};

@@ -2,6 +2,7 @@
 // The planner's and the checker's entries ask it before anything else, so that behind it every number is in range.
 // It promises the number of the first item out of range, numbered as in a text of the same job (the sheet count stands as 1, item 0).
 #![tactic(auto)]
+
 ghost use Rattle.std.specs.Prelude.{◌≡◌, not, ◌&&◌, map, ◌≤◌, leb};
 ghost use Rattle.rules.specs.Limits.{types_most};
 ghost use Rattle.rules.specs.Items.{out_of_range};

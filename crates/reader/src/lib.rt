@@ -2,6 +2,7 @@
 // The crate `reading` walks the sections of a text with it. It promises the number that stands at a place, with the place behind it,
 // or the place where the text leaves the grammar.
 #![tactic(auto)]
+
 ghost use Rattle.std.specs.Prelude.{◌≡◌, ◌&&◌, ◌-◌, ◌≤◌, ◌<◌};
 ghost use Rattle.rules.proofs.Reading.{is_digit, room};
 ghost use Rattle.reader.specs.Number.{number_at};

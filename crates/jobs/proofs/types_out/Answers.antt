@@ -1,24 +1,17 @@
 use mathlib.Core.Path.{sym, ap}
-use Prim.Native.Nat.{◌-◌, ◌<◌}
-use lib.ListN.{length}
 use Rattle.jobs.specs.Item.{item_place}
 use Rattle.jobs.proofs.Laws.{passed_start, passed_next, passed_stop, passed_end, line_at}
 use borrow.Author.Rules.{rules}
 use Rattle.jobs.proofs.types_out.Goals as goal
 
--- TODO
--- the index is below the length of the array, which is the limit of types
-twelve : (c : lts.In-loop (line-out-reads.Asked, line-out-reads.Learnt) reads.Pre reads.Post invariant-loop decreases-loop) → c.before.loop.i < length c.before.before.args.t1
-twelve c = search rules
-
 pub loop-i-init : goal.loop-i-init
 loop-i-init c = passed_start _ _
 
 pub returns-in-Out : goal.returns-in-Out
-returns-in-Out c = passed_stop c.loop-i.invariant c.loop-i-test.true _ (line_at c.args.types c.loop-i.i _ (twelve BARE_t)) c.line_out-line.result c.line_out-line.ensures (ap item_place c.in-Out.is)
+returns-in-Out c = passed_stop c.loop-i.invariant c.loop-i-test.true _ (line_at c.args.types c.loop-i.i _ (search rules)) c.line_out-line.result c.line_out-line.ensures (ap item_place c.in-Out.is)
 
 pub loop-i-preserved : goal.loop-i-preserved
-loop-i-preserved c = passed_next c.loop-i.invariant c.loop-i-test.true _ (line_at c.args.types c.loop-i.i _ (twelve BARE_t)) c.line_out-line.result c.line_out-line.ensures (ap item_place c.in_default.is)
+loop-i-preserved c = passed_next c.loop-i.invariant c.loop-i-test.true _ (line_at c.args.types c.loop-i.i _ (search rules)) c.line_out-line.result c.line_out-line.ensures (ap item_place c.in_default.is)
 
 pub returns : goal.returns
 returns c = sym (passed_end c.loop-i.invariant c.loop-i-test.false)

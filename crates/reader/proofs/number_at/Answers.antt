@@ -1,8 +1,7 @@
 use mathlib.Core.Path.{refl, sym, ◌∙◌}
-use Prim.Native.Nat.{◌-◌}
 use native.Mathlib.Omega.{arith}
 use lib.ListN.{get_or}
-use Rattle.reader.proofs.Digits.{out, one_digit, number, no_digit_yet, other_byte, Grows, grows}
+use Rattle.reader.proofs.Digits.{out, one_digit, number, no_digit_yet, other_byte, grows}
 use Rattle.reader.proofs.number_at.Goals as goal
 
 pub loop-at-init : goal.loop-at-init
@@ -11,20 +10,14 @@ loop-at-init c = (refl, omega arith, omega arith)
 pub bounds-text-at : goal.bounds-text-at
 bounds-text-at c = omega arith
 
--- TODO
--- what the test of a digit showed
-seen : (c : lts.Then1 (may-follow-reads.Asked, may-follow-reads.Learnt, digit-reads.Asked, digit-reads.Learnt) reads.Pre reads.Post invariant-loop decreases-loop) →
-    Grows (get_or c.before.before.before.before.before.before.args.text.now c.before.before.before.before.loop.at 0) c.before.before.before.before.loop.digits c.before.before.before.before.loop.value
-seen c = grows c.before.before.before.before.loop.invariant.1 (sym c.before.may-follow.ensures ∙ c.if1.true)
-
 pub overflow_mul-value : goal.overflow_mul-value
-overflow_mul-value c = omega (arith, (seen c).small)
+overflow_mul-value c = omega (arith, (grows {b = get_or c.args.text.now c.loop-at.at 0} c.loop-at.invariant.1 (sym c.may_follow.ensures ∙ c.if-may_follow.true)).small)
 
 pub digit-requires : goal.digit-requires
-digit-requires c = ((seen c).low, (seen c).high)
+digit-requires c = ((grows {b = get_or c.args.text.now c.loop-at.at 0} c.loop-at.invariant.1 (sym c.may_follow.ensures ∙ c.if-may_follow.true)).low, (grows {b = get_or c.args.text.now c.loop-at.at 0} c.loop-at.invariant.1 (sym c.may_follow.ensures ∙ c.if-may_follow.true)).high)
 
 pub overflow_add-value : goal.overflow_add-value
-overflow_add-value c = omega (arith, (seen BARE_c.before).small, (seen BARE_c.before).high, c.digit.ensures)
+overflow_add-value c = omega (arith, (grows {b = get_or c.args.text.now c.loop-at.at 0} c.loop-at.invariant.1 (sym c.may_follow.ensures ∙ c.if-may_follow.true)).small, (grows {b = get_or c.args.text.now c.loop-at.at 0} c.loop-at.invariant.1 (sym c.may_follow.ensures ∙ c.if-may_follow.true)).high, c.digit.ensures)
 
 pub overflow_add-digits : goal.overflow_add-digits
 overflow_add-digits c = omega arith
@@ -37,9 +30,8 @@ loop-at-smaller c = omega arith
 
 pub loop-at-preserved : goal.loop-at-preserved
 loop-at-preserved c =
-    let g = seen BARE_c.before in
-    let d = c.digit.ensures in
-    (
+    let g = grows {b = get_or c.args.text.now c.loop-at.at 0} c.loop-at.invariant.1 (sym c.may_follow.ensures ∙ c.if-may_follow.true) in
+    let d = c.digit.ensures in (
       c.loop-at.invariant.0 ∙ one_digit _ _ c.loop-at.at c.loop-at.digits c.loop-at.value c.loop-at-test.true (sym c.may_follow.ensures ∙ c.if-may_follow.true) ∙ rw d,
       rw d g.fits,
       omega (arith, g.few),

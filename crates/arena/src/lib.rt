@@ -3,6 +3,7 @@
 // Bytes 0 to 11 hold the counts, then two bytes each the length, the width and the two halves, one byte how it was made; from byte 22 on stand five links,
 // numbers of two bytes that whoever lists outlines keeps there. A record that is written has links 0.
 #![tactic(auto)]
+
 ghost use Rattle.std.specs.Prelude.{◌≡◌, true, List, ℕ, ◌+◌, ◌*◌, ◌≤◌, ◌<◌, ◌-◌, length, get_or, take, replicate};
 ghost use Rattle.rules.specs.Limits.{record_bytes, types_most};
 ghost use Rattle.rules.specs.Bag.{sum};

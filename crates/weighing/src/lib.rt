@@ -1,6 +1,7 @@
 // What the numbers of a key weigh together, and the bucket that a weight falls into. Whoever finds something through buckets calls this crate: a class by its counts, an outline of a class by its two sizes.
 // Weights add up as the numbers do: where one count goes up by a piece the weight goes up by that piece's, and what is left of some counts weighs what they weigh less the part.
 #![tactic(auto)]
+
 ghost use Rattle.std.specs.Prelude.{◌≡◌, ◌*◌, ◌≤◌, ◌<◌, take};
 ghost use Rattle.rules.specs.Limits.{types_most, records_most};
 ghost use Rattle.weighing.specs.Weights.{weight_most, next_weight, weighed, spread, key_most};

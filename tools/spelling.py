@@ -54,6 +54,8 @@ def declared():
 
 
 def small(name):
+    name = re.sub(r"(?<=[a-z0-9])([A-Z])(?=[A-Z][a-z])", lambda m: "_" + m.group(0).lower() + "_", name)
+    name = re.sub(r"(?<=_)([A-Z])", lambda m: m.group(0).lower(), name)
     return re.sub(r"(?<=[a-z0-9])([A-Z])(?![A-Z]|$)|(?<=[a-z0-9])([A-Z])$", lambda m: "_" + m.group(0).lower(), name)
 
 

@@ -13,7 +13,7 @@ use Rattle.rules.specs.Parted.{CanBeParted}
 use Rattle.rules.specs.Placed.{boxes, worth}
 use Rattle.rules.specs.Numbers.{Numbers, Entry, entries, job_of, placed, lying}
 use Rattle.rules.specs.Planner.{slots_of}
-use Rattle.rules.specs.Checker.{CheckAnswer, refused, notAType, off_sheet, above_demand, overlaps, first_place, tests, first_refusal, nothing, Checked, refusal, not_parted, accepted}
+use Rattle.rules.specs.Checker.{CheckAnswer, refused, not_a_type, off_sheet, above_demand, overlaps, first_place, tests, first_refusal, nothing, Checked, refusal, not_parted, accepted}
 use Rattle.rules.proofs.Bags.{index_all}
 use Rattle.rules.specs.Items.{out_of_range, numbers_from}
 use Rattle.rules.specs.Answers.{within, CheckNumbers}
@@ -34,10 +34,10 @@ found_at : (f : List Entry → Entry → Bool) (flat : List ℕ) {r : Place} {i 
 found_at f flat a e = sym a ∙ ap place_in e
 
 module _ (n : Numbers) (flat : List ℕ) {r : Place} {i : ℕ} where
-  pub rejected_6 : FirstAt (notAType n) flat r → r ≡ At i → Checked n (entries flat) (refused 6 i)
-  rejected_6 f e = refusal {number = 6} {place = i} (rw (found_at (notAType n) flat f e) refl)
+  pub rejected_6 : FirstAt (not_a_type n) flat r → r ≡ At i → Checked n (entries flat) (refused 6 i)
+  rejected_6 f e = refusal {number = 6} {place = i} (rw (found_at (not_a_type n) flat f e) refl)
 
-  module _ (six : NoneAt (notAType n) flat) where
+  module _ (six : NoneAt (not_a_type n) flat) where
     pub rejected_7 : FirstAt (off_sheet n) flat r → r ≡ At i → Checked n (entries flat) (refused 7 i)
     rejected_7 f e = refusal {number = 7} {place = i} (rw (six, found_at (off_sheet n) flat f e) refl)
 
@@ -48,7 +48,7 @@ module _ (n : Numbers) (flat : List ℕ) {r : Place} {i : ℕ} where
       pub rejected_9 : NoneAt (above_demand n) flat → FirstAt (overlaps n) flat r → r ≡ At i → Checked n (entries flat) (refused 9 i)
       rejected_9 eight f e = refusal {number = 9} {place = i} (rw (six, seven, eight, found_at (overlaps n) flat f e) refl)
 
-nothing_found : (n : Numbers) (flat : List ℕ) → NoneAt (notAType n) flat → NoneAt (off_sheet n) flat → NoneAt (above_demand n) flat → NoneAt (overlaps n) flat → first_refusal (tests n) (entries flat) ≡ nothing
+nothing_found : (n : Numbers) (flat : List ℕ) → NoneAt (not_a_type n) flat → NoneAt (off_sheet n) flat → NoneAt (above_demand n) flat → NoneAt (overlaps n) flat → first_refusal (tests n) (entries flat) ≡ nothing
 nothing_found n flat six seven eight nine = rw (six, seven, eight, nine) refl
 
 -- two lists whose boxes agree place by place

@@ -10,7 +10,7 @@ use lib.Dec.{eqb, leb, ltb}
 use borrow.Author.Tests.{eqb-false, ltb-false, le-leb, lt-leb, lt-ltb, le-ltb, eq-eqb, ne_eqb}
 use Rattle.rules.specs.Placed.{of_type}
 use Rattle.rules.specs.Numbers.{PieceType, Entry, no_type}
-use Rattle.rules.specs.Checker.{notAType, off_sheet}
+use Rattle.rules.specs.Checker.{not_a_type, off_sheet}
 use Rattle.rules.proofs.Bools.{not_true, not_false, or_false}
 use Rattle.shapes.specs.Handed.{numbers_of, entry_of, JobInRange}
 use Rattle.shapes.specs.declared.Job.{Job}
@@ -26,7 +26,7 @@ kind_zero types kind e = rw (eq-eqb kind 0 e)
 pub kind_other : (types kind : ℕ) → (kind ≡ 0 → ⊥) → ltb types kind ≡ (eqb kind 0 || ltb types kind)
 kind_other types kind e = rw (ne_eqb kind 0 e)
 
-pub type_test : (j : Job) → JobInRange j → (p : Placement) (r : Bool) → r ≡ (eqb p.kind 0 || ltb j.count p.kind) → (es : List Entry) → r ≡ notAType (numbers_of j) es (entry_of p)
+pub type_test : (j : Job) → JobInRange j → (p : Placement) (r : Bool) → r ≡ (eqb p.kind 0 || ltb j.count p.kind) → (es : List Entry) → r ≡ not_a_type (numbers_of j) es (entry_of p)
 type_test j f p r e es = rw (types_count j f) e
 
 -- 7
@@ -54,7 +54,7 @@ module _ (j : Job) (p : Placement) (t : declared.PieceType) (is : TypeOf j p.kin
   off_across e across = rw (← length_is, ← width_is, not_false (leb (p.x + (t.length + j.kerf)) j.length) (sym along ∙ e)) across
 
 -- an entry that passes test 6 is of a type of the job
-pub of_type_lem : (j : Job) → JobInRange j → (p : Placement) → notAType (numbers_of j) [] (entry_of p) ≡ false → OfJob j p.kind
+pub of_type_lem : (j : Job) → JobInRange j → (p : Placement) → not_a_type (numbers_of j) [] (entry_of p) ≡ false → OfJob j p.kind
 of_type_lem j f p e =
     let q = or_false (eqb p.kind 0) (ltb (length (numbers_of j).types) p.kind) e in
     record { fine = f; low = positive p.kind (eqb-false p.kind 0 q.0); high = omega (arith, ltb-false (length (numbers_of j).types) p.kind q.1, types_count j f) }

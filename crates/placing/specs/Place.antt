@@ -3,7 +3,7 @@ use Rattle.std.specs.Prelude.{◌≡◌, Bool, List, [], ℕ, ◌≤◌, ◌<◌
 use Rattle.std.proofs.Math.Option.{Option, none, some}
 use Rattle.rules.specs.Placed.{of_type}
 use Rattle.rules.specs.Numbers.{Entry, entries, no_type}
-use Rattle.rules.specs.Checker.{notAType, above_demand, first_place}
+use Rattle.rules.specs.Checker.{not_a_type, above_demand, first_place}
 use Rattle.rules.proofs.Ranges.{TypeInRange}
 use Rattle.shapes.specs.Handed.{type_of, numbers_of, entry_of, JobInRange}
 use Rattle.shapes.specs.declared.Job.{Job}
@@ -47,7 +47,7 @@ pub record TypeOf (j : Job) (kind : ℕ) (t : PieceType) : Type 0 where
 -- such a job, and a list in which test 6 finds nothing
 pub record Typed (j : Job) (flat : List ℕ) : Type 0 where
   pub fine : JobInRange j
-  pub typed : NoneAt (notAType (numbers_of j)) flat
+  pub typed : NoneAt (not_a_type (numbers_of j)) flat
 
 -- and test 8 finds nothing
 pub record Demanded (j : Job) (flat : List ℕ) : Type 0 where

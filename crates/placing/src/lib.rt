@@ -6,7 +6,7 @@ ghost use Rattle.std.specs.Prelude.{◌≡◌, not, ◌||◌, ◌+◌, ◌<◌, 
 ghost use Rattle.rules.specs.Numbers.{entries, job_of, lying};
 ghost use Rattle.rules.specs.Placed.{worth};
 ghost use Rattle.rules.specs.Planner.{slots_of};
-ghost use Rattle.rules.specs.Checker.{notAType, off_sheet, above_demand};
+ghost use Rattle.rules.specs.Checker.{not_a_type, off_sheet, above_demand};
 ghost use Rattle.shapes.specs.Handed.{entry_of, numbers_of, JobInRange};
 ghost use Rattle.placing.specs.Place.{entry_at, HoldsOf, FirstAt, OfJob, Typed, Demanded, TypeOf};
 
@@ -52,7 +52,7 @@ pub fn not_a_type(types: u64, kind: u64) -> bool
 // 6: "a type not in 1 to n".
 pub fn first_not_a_type(job: Job, list: &[u64]) -> Place
     requires { JobInRange job }
-    ensures { FirstAt (notAType (numbers_of job)) list.now result }
+    ensures { FirstAt (not_a_type (numbers_of job)) list.now result }
 {
     let count = placements_in(list.len());
     let mut i = 0;

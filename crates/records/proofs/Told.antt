@@ -12,7 +12,7 @@ use Rattle.rules.specs.Bag.{count}
 use Rattle.rules.specs.Items.{numbers_from}
 use Rattle.rules.specs.Placed.{of_type}
 use Rattle.rules.specs.Numbers.{Numbers, PieceType, Entry, no_type}
-use Rattle.rules.specs.Checker.{notAType, off_sheet, above_demand}
+use Rattle.rules.specs.Checker.{not_a_type, off_sheet, above_demand}
 use Rattle.rules.specs.Answers.{outside, CheckNumbers}
 use Rattle.shapes.specs.Answer.{check_answer}
 use Rattle.shapes.specs.Handed.{items_of, numbers_of, entry_of, JobInRange}
@@ -48,13 +48,13 @@ module _ (j : Job) (ps : List Placement) (s : Scan) (p : Placement) where
   demand_is : {t : declared.PieceType} → TypeOf j p.kind t → t.demand ≡ (of_type no_type n.types p.kind).demand
   demand_is is = ap (λ (q : PieceType). q.demand) is.is
 
-  none_6 : NoneAt (notAType n) (flat_of ps) → notAType n [] (entry_of p) ≡ false → NoneAt (notAType n) (flat_of (ps ++ (p ∷ [])))
-  none_6 h e = place_none (notAType n) ps p h e
+  none_6 : NoneAt (not_a_type n) (flat_of ps) → not_a_type n [] (entry_of p) ≡ false → NoneAt (not_a_type n) (flat_of (ps ++ (p ∷ [])))
+  none_6 h e = place_none (not_a_type n) ps p h e
 
   none_7 : NoneAt (off_sheet n) (flat_of ps) → off_sheet n [] (entry_of p) ≡ false → NoneAt (off_sheet n) (flat_of (ps ++ (p ∷ [])))
   none_7 h e = place_none (off_sheet n) ps p h e
 
-  none_8 : {t : declared.PieceType} → Alive j ps s → Holding ps s → NoneAt (above_demand n) (flat_of ps) → notAType n [] (entry_of p) ≡ false → TypeOf j p.kind t → get_or s.counts (p.kind - 1) 0 < t.demand → NoneAt (above_demand n) (flat_of (ps ++ (p ∷ [])))
+  none_8 : {t : declared.PieceType} → Alive j ps s → Holding ps s → NoneAt (above_demand n) (flat_of ps) → not_a_type n [] (entry_of p) ≡ false → TypeOf j p.kind t → get_or s.counts (p.kind - 1) 0 < t.demand → NoneAt (above_demand n) (flat_of (ps ++ (p ∷ [])))
   none_8 a g h e is l = place_none (above_demand n) ps p h (lt-leb (of_type no_type n.types p.kind).demand (count (λ u. eqb u.type p.kind) (behind ps)) (omega (arith, had g (of_type_lem j a.fine p e), demand_is is)))
 
   -- the state r, in which one placement more is seen
@@ -65,10 +65,10 @@ module _ (j : Job) (ps : List Placement) (s : Scan) (p : Placement) where
     here : (f : List Entry → Entry → Bool) → Alive j ps s → NoneAt f (flat_of ps) → f (behind ps) (entry_of p) ≡ true → FirstIs f (ps ++ (p ∷ [])) s.seen
     here f a h e = subst (FirstIs f (ps ++ (p ∷ []))) (sym a.seen) (place_here f ps p h e)
 
-    here_6 : Alive j ps s → NoneAt (notAType n) (flat_of ps) → notAType n [] (entry_of p) ≡ true → Told j (ps ++ (p ∷ [])) r (NotAType s.seen)
-    here_6 a h e = six (alive_next a) (here (notAType n) a h e)
+    here_6 : Alive j ps s → NoneAt (not_a_type n) (flat_of ps) → not_a_type n [] (entry_of p) ≡ true → Told j (ps ++ (p ∷ [])) r (NotAType s.seen)
+    here_6 a h e = six (alive_next a) (here (not_a_type n) a h e)
 
-    here_7 : Alive j ps s → NoneAt (notAType n) (flat_of ps) → NoneAt (off_sheet n) (flat_of ps) → notAType n [] (entry_of p) ≡ false → off_sheet n [] (entry_of p) ≡ true → Told j (ps ++ (p ∷ [])) r (OffSheet s.seen)
+    here_7 : Alive j ps s → NoneAt (not_a_type n) (flat_of ps) → NoneAt (off_sheet n) (flat_of ps) → not_a_type n [] (entry_of p) ≡ false → off_sheet n [] (entry_of p) ≡ true → Told j (ps ++ (p ∷ [])) r (OffSheet s.seen)
     here_7 a h k e f = seven (alive_next a) (none_6 h e) (here (off_sheet n) a k f)
 
     -- the old finding and the new one: the sooner of the two
@@ -77,10 +77,10 @@ module _ (j : Job) (ps : List Placement) (s : Scan) (p : Placement) where
     told_next (out e) (off f g) h = out e
     told_next (out e) (above f g is l) h = out e
     told_next (out e) (passes f g is l) h = out e
-    told_next (six a e) (no_type_lem f) h = six (alive_next a) (place_kept (notAType n) ps p e)
-    told_next (six a e) (off f g) h = six (alive_next a) (place_kept (notAType n) ps p e)
-    told_next (six a e) (above f g is l) h = six (alive_next a) (place_kept (notAType n) ps p e)
-    told_next (six a e) (passes f g is l) h = six (alive_next a) (place_kept (notAType n) ps p e)
+    told_next (six a e) (no_type_lem f) h = six (alive_next a) (place_kept (not_a_type n) ps p e)
+    told_next (six a e) (off f g) h = six (alive_next a) (place_kept (not_a_type n) ps p e)
+    told_next (six a e) (above f g is l) h = six (alive_next a) (place_kept (not_a_type n) ps p e)
+    told_next (six a e) (passes f g is l) h = six (alive_next a) (place_kept (not_a_type n) ps p e)
     told_next (seven a b e) (no_type_lem f) h = here_6 a b f
     told_next (seven a b e) (off f g) h = seven (alive_next a) (none_6 b f) (place_kept (off_sheet n) ps p e)
     told_next (seven a b e) (above f g is l) h = seven (alive_next a) (none_6 b f) (place_kept (off_sheet n) ps p e)

@@ -5,7 +5,7 @@ use Rattle.rules.specs.Limits.{types_most, demand_most, pieces_most, placement_n
 use Rattle.rules.specs.Bag.{count}
 use Rattle.rules.specs.Items.{out_of_range}
 use Rattle.rules.specs.Numbers.{Entry, entries}
-use Rattle.rules.specs.Checker.{notAType, off_sheet, above_demand, first_place}
+use Rattle.rules.specs.Checker.{not_a_type, off_sheet, above_demand, first_place}
 use Rattle.rules.specs.Answers.{CheckNumbers}
 use Rattle.shapes.specs.Answer.{check_answer}
 use Rattle.shapes.specs.Handed.{items_of, numbers_of, entry_of, JobInRange}
@@ -30,10 +30,10 @@ pub data Began (j : Job) : Found → Type 0 where
 
 -- the first of tests 6 to 8 that holds of a placement at i, where so many of its type came before
 pub data Tested (j : Job) (counts : List ℕ) (p : Placement) (i : ℕ) : Found → Type 0 where
-  no_type_lem : notAType (numbers_of j) [] (entry_of p) ≡ true → Tested j counts p i (NotAType i)
-  off : notAType (numbers_of j) [] (entry_of p) ≡ false → off_sheet (numbers_of j) [] (entry_of p) ≡ true → Tested j counts p i (OffSheet i)
-  above : {t : declared.PieceType} → notAType (numbers_of j) [] (entry_of p) ≡ false → off_sheet (numbers_of j) [] (entry_of p) ≡ false → TypeOf j p.kind t → t.demand ≤ get_or counts (p.kind - 1) 0 → Tested j counts p i (AboveDemand i)
-  passes : {t : declared.PieceType} → notAType (numbers_of j) [] (entry_of p) ≡ false → off_sheet (numbers_of j) [] (entry_of p) ≡ false → TypeOf j p.kind t → get_or counts (p.kind - 1) 0 < t.demand → Tested j counts p i Clean
+  no_type_lem : not_a_type (numbers_of j) [] (entry_of p) ≡ true → Tested j counts p i (NotAType i)
+  off : not_a_type (numbers_of j) [] (entry_of p) ≡ false → off_sheet (numbers_of j) [] (entry_of p) ≡ true → Tested j counts p i (OffSheet i)
+  above : {t : declared.PieceType} → not_a_type (numbers_of j) [] (entry_of p) ≡ false → off_sheet (numbers_of j) [] (entry_of p) ≡ false → TypeOf j p.kind t → t.demand ≤ get_or counts (p.kind - 1) 0 → Tested j counts p i (AboveDemand i)
+  passes : {t : declared.PieceType} → not_a_type (numbers_of j) [] (entry_of p) ≡ false → off_sheet (numbers_of j) [] (entry_of p) ≡ false → TypeOf j p.kind t → get_or counts (p.kind - 1) 0 < t.demand → Tested j counts p i Clean
 
 -- the refusal table's order
 abbrev pub rank_of : Found → ℕ
@@ -98,10 +98,10 @@ FirstIs f ps i = first_place f 0 [] (entries (flat_of ps)) ≡ some i
 -- what is found of the placements ps
 pub data Told (j : Job) (ps : List Placement) (s : Scan) : Found → Type 0 where
   out : {item : ℕ} → out_of_range (items_of j) ≡ some item → Told j ps s (OutOfRange item)
-  six : {i : ℕ} → Alive j ps s → FirstIs (notAType (numbers_of j)) ps i → Told j ps s (NotAType i)
-  seven : {i : ℕ} → Alive j ps s → NoneAt (notAType (numbers_of j)) (flat_of ps) → FirstIs (off_sheet (numbers_of j)) ps i → Told j ps s (OffSheet i)
-  eight : {i : ℕ} → Alive j ps s → NoneAt (notAType (numbers_of j)) (flat_of ps) → NoneAt (off_sheet (numbers_of j)) (flat_of ps) → FirstIs (above_demand (numbers_of j)) ps i → Told j ps s (AboveDemand i)
-  clean : Alive j ps s → NoneAt (notAType (numbers_of j)) (flat_of ps) → NoneAt (off_sheet (numbers_of j)) (flat_of ps) → NoneAt (above_demand (numbers_of j)) (flat_of ps) → Holding ps s → Told j ps s Clean
+  six : {i : ℕ} → Alive j ps s → FirstIs (not_a_type (numbers_of j)) ps i → Told j ps s (NotAType i)
+  seven : {i : ℕ} → Alive j ps s → NoneAt (not_a_type (numbers_of j)) (flat_of ps) → FirstIs (off_sheet (numbers_of j)) ps i → Told j ps s (OffSheet i)
+  eight : {i : ℕ} → Alive j ps s → NoneAt (not_a_type (numbers_of j)) (flat_of ps) → NoneAt (off_sheet (numbers_of j)) (flat_of ps) → FirstIs (above_demand (numbers_of j)) ps i → Told j ps s (AboveDemand i)
+  clean : Alive j ps s → NoneAt (not_a_type (numbers_of j)) (flat_of ps) → NoneAt (off_sheet (numbers_of j)) (flat_of ps) → NoneAt (above_demand (numbers_of j)) (flat_of ps) → Holding ps s → Told j ps s Clean
 
 -- the state after the placements ps of a list for the job j
 pub record Scanning (j : Job) (ps : List Placement) (s : Scan) : Type 0 where

@@ -15,7 +15,7 @@ use Rattle.rules.specs.Parted.{CanBeParted}
 use Rattle.rules.specs.Job.{AtMost, table, types}
 use Rattle.rules.specs.Placed.{boxes, Of, OnSheet, counts_of, of_type, Accepted}
 use Rattle.rules.specs.Numbers.{Numbers, PieceType, no_type, grown, singles_from, job_of, Entry, placed, lying}
-use Rattle.rules.specs.Checker.{CheckAnswer, notAType, off_sheet, above_demand, overlaps, first_place, tests, Found, nothing, found, or_else, first_refusal, Checked, refusal, not_parted, accepted}
+use Rattle.rules.specs.Checker.{CheckAnswer, not_a_type, off_sheet, above_demand, overlaps, first_place, tests, Found, nothing, found, or_else, first_refusal, Checked, refusal, not_parted, accepted}
 use Rattle.rules.proofs.Bools.{and_both, both_and, or_false, both_false, not_false}
 use Rattle.rules.proofs.Bags.{all_at, all_map, all_zip, all_image, image_all, count_map}
 use Rattle.rules.proofs.Boxes.{apart_sym, of_apart}
@@ -50,7 +50,7 @@ or_something m (some i) r {number} e p k = let z : m ≡ number = cc in omega ar
 -- a refusal has a number
 pub refusal_number : (n : Numbers) (l : List Entry) {number place : ℕ} → first_refusal (tests n) l ≡ found number place → 0 < number
 refusal_number n l e =
-    or_something 6 (first_place (notAType n) 0 [] l) _ e (omega arith) (λ f.
+    or_something 6 (first_place (not_a_type n) 0 [] l) _ e (omega arith) (λ f.
     or_something 7 (first_place (off_sheet n) 0 [] l) _ f (omega arith) (λ g.
     or_something 8 (first_place (above_demand n) 0 [] l) _ g (omega arith) (λ h.
     or_something 9 (first_place (overlaps n) 0 [] l) _ h (omega arith) (λ k. never k))))
@@ -93,7 +93,7 @@ pub job_of_lem : (n : Numbers) (e : Entry) → Of (job_of n) (placed n e) → Ty
 job_of_lem n e m = all_at (job_typed n) m
 
 -- 6
-types_ok : (n : Numbers) {es l : List Entry} → Clean (notAType n) es l → All (λ e. Typed (job_of n) e.type) l
+types_ok : (n : Numbers) {es l : List Entry} → Clean (not_a_type n) es l → All (λ e. Typed (job_of n) e.type) l
 types_ok n end = nil
 types_ok n (next {e = e} p c) =
     let q = or_false (eqb e.type 0) (ltb (length n.types) e.type) p in
@@ -104,7 +104,7 @@ types_ok n (next {e = e} p c) =
     positive zero h = absurd (h refl)
     positive (suc t) h = omega arith
 
-ok_types : (n : Numbers) (es : List Entry) {l : List Entry} → All (λ e. Typed (job_of n) e.type) l → Clean (notAType n) es l
+ok_types : (n : Numbers) (es : List Entry) {l : List Entry} → All (λ e. Typed (job_of n) e.type) l → Clean (not_a_type n) es l
 ok_types n es nil = end
 ok_types n es (cons {x = e} r a) =
     next (both_false (ne_eqb e.type 0 (λ z. omega (arith, r.low, z))) (le-ltb (length n.types) e.type (omega (arith, r.high, types_of n)))) (ok_types n (e ∷ es) a)
@@ -199,11 +199,11 @@ ok_apart n es (e ∷ l) (cons h a) (more k d) =
 -- together
 pub tests_pass : (n : Numbers) (l : List Entry) → first_refusal (tests n) l ≡ nothing → CanBeParted (boxes (lying n l)) → Accepted (job_of n) (lying n l)
 tests_pass n l e p =
-    let a = or_nothing 6 (first_place (notAType n) 0 [] l) _ e in
+    let a = or_nothing 6 (first_place (not_a_type n) 0 [] l) _ e in
     let b = or_nothing 7 (first_place (off_sheet n) 0 [] l) _ a.1 in
     let c = or_nothing 8 (first_place (above_demand n) 0 [] l) _ b.1 in
     record {
-      known = all_image (placed n) (all_map (λ e h. of_job n e h) (types_ok n (clean (notAType n) 0 [] l a.0)));
+      known = all_image (placed n) (all_map (λ e h. of_job n e h) (types_ok n (clean (not_a_type n) 0 [] l a.0)));
       inside = all_image (placed n) (inside_ok n (clean (off_sheet n) 0 [] l b.0));
       demand = keeps_demand n l (clean (above_demand n) 0 [] l c.0);
       parted = p;
@@ -231,8 +231,8 @@ accepts_exactly n l a (not_parted e p) = ((λ z. absurd (omega (arith, z))), (λ
 accepts_exactly n l a (accepted e p) = ((λ z. tests_pass n l e p), (λ h. refl))
 
 -- what tests 6, 7 and 8 show, each by itself, where they find nothing
-pub types_kept : (n : Numbers) (l : List Entry) → first_place (notAType n) 0 [] l ≡ none → All (λ e. Typed (job_of n) e.type) l
-types_kept n l e = types_ok n (clean (notAType n) 0 [] l e)
+pub types_kept : (n : Numbers) (l : List Entry) → first_place (not_a_type n) 0 [] l ≡ none → All (λ e. Typed (job_of n) e.type) l
+types_kept n l e = types_ok n (clean (not_a_type n) 0 [] l e)
 
 pub sheet_kept : (n : Numbers) (l : List Entry) → first_place (off_sheet n) 0 [] l ≡ none → All (λ e. OnSheet (job_of n) (placed n e)) l
 sheet_kept n l e = inside_ok n (clean (off_sheet n) 0 [] l e)

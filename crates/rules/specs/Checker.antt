@@ -23,8 +23,8 @@ taken n l = record { number = 0; place = 0; profit = worth (job_of n) (lying n l
 
 -- Each test is of an entry e and the entries es before it, the nearest first.
 -- 6: "a type not in 1 to n"
-abbrev pub notAType : Numbers → List Entry → Entry → Bool
-notAType n es e = eqb e.type 0 || ltb (length n.types) e.type
+abbrev pub not_a_type : Numbers → List Entry → Entry → Bool
+not_a_type n es e = eqb e.type 0 || ltb (length n.types) e.type
 
 -- 7: "a piece not wholly in the sheet"
 abbrev pub off_sheet : Numbers → List Entry → Entry → Bool
@@ -45,7 +45,7 @@ pub record Test : Type 0 where
 -- "Order: .. 6, 7, 8, 9, 10 for checking."
 abbrev pub tests : Numbers → List Test
 tests n =
-    record { number = 6; holds = notAType n }
+    record { number = 6; holds = not_a_type n }
     ∷ record { number = 7; holds = off_sheet n }
     ∷ record { number = 8; holds = above_demand n }
     ∷ record { number = 9; holds = overlaps n }

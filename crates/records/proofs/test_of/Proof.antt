@@ -4,7 +4,7 @@ use mathlib.Core.Bool.{false}
 use mathlib.Core.List.{[]}
 use native.Mathlib.Omega.{arith}
 use borrow.Author.Rules.{rules}
-use Rattle.rules.specs.Checker.{notAType}
+use Rattle.rules.specs.Checker.{not_a_type}
 use Rattle.shapes.specs.Handed.{numbers_of, entry_of}
 use Rattle.placing.specs.Place.{OfJob}
 use Rattle.placing.proofs.Tests.{type_test, of_type_lem}
@@ -18,7 +18,7 @@ use Rattle.placing.proofs.off_sheet.Reads as off-sheet-reads
 use Rattle.placing.proofs.type_of.Reads as type-of-reads
 
 -- test 6 does not hold
-passed_6 : (c : lts.Else1 (not-a-type-reads.Asked, not-a-type-reads.Learnt, off-sheet-reads.Asked, off-sheet-reads.Learnt, type-of-reads.Asked, type-of-reads.Learnt) reads.Pre reads.Post) → notAType (numbers_of c.before.before.args.job) [] (entry_of c.before.before.args.p) ≡ false
+passed_6 : (c : lts.Else1 (not-a-type-reads.Asked, not-a-type-reads.Learnt, off-sheet-reads.Asked, off-sheet-reads.Learnt, type-of-reads.Asked, type-of-reads.Learnt) reads.Pre reads.Post) → not_a_type (numbers_of c.before.before.args.job) [] (entry_of c.before.before.args.p) ≡ false
 passed_6 c =
     let asked = c.before in
     sym (type_test _ asked.before.requires asked.before.args.p _ asked.not-a-type.ensures []) ∙ c.if1.false

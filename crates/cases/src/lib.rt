@@ -1,6 +1,7 @@
 // For tests: the numbers and headers of test cases are read here, lent buffers are filled, and looked at afterwards.
 // The program `batch` calls it. Nothing is promised but that every call gets an answer: what is tested is elsewhere.
 #![tactic(auto)]
+
 ghost use Rattle.std.specs.Prelude.{◌≤◌, length};
 
 use shapes::{Job, PieceType, TYPES_MOST};

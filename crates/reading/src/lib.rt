@@ -2,6 +2,7 @@
 // The crate `texts` puts job texts and plan texts together from it; nothing here knows of ranges or of cutting.
 // It promises that each walk goes as the grammar's reading does: on to the place behind what was asked for, or to the place where the text leaves the grammar.
 #![tactic(auto)]
+
 ghost use Rattle.std.specs.Prelude.{◌≡◌, ◌≢◌, [], ◌∷◌, ◌≤◌, ◌<◌, length, take};
 ghost use Rattle.rules.specs.Limits.{types_most, pieces_most};
 ghost use Rattle.rules.specs.Text.{a_line, some_lines, section};

@@ -2,6 +2,7 @@
 // The text entries of planner and checker call them. They promise refusal 1 with its place, refusal 2 with the first item out of range,
 // or the job, and of a plan text its placements as flat numbers in the lent buffer. A text is read to its end before a range is told.
 #![tactic(auto)]
+
 ghost use Rattle.std.specs.Prelude.{◌≡◌, ◌++◌, ◌≤◌, length, take, drop};
 ghost use Rattle.rules.specs.Limits.{types_most, pieces_most};
 ghost use Rattle.reading.specs.Placements.{numbers_of_placements};

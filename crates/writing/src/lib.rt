@@ -3,6 +3,7 @@
 // Each writes all it is asked for or nothing: it answers the place behind the last byte, or that the buffer is too short,
 // and then every byte is as it was. A contract says which bytes stand where, and that all others stay.
 #![tactic(auto)]
+
 ghost use Rattle.std.specs.Prelude.{◌≡◌, [], ◌∷◌, ◌++◌, map, ◌+◌, ◌≤◌, length, drop};
 ghost use Rattle.rules.specs.Items.{type_items};
 ghost use Rattle.shapes.specs.Handed.{type_of};

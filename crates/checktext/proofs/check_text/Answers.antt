@@ -6,26 +6,16 @@ use Rattle.texts.specs.Told.{told_number}
 use Rattle.checktext.proofs.Laws.{refuses_told, fits, answers}
 use Rattle.checktext.proofs.check_text.Goals as goal
 
--- TODO
-abbrev cs : lts.Claims
-cs = (read-plan-reads.Asked, read-plan-reads.Learnt, check-list-reads.Asked, check-list-reads.Learnt)
-
 pub overflow_mul-end : goal.overflow_mul-end
-overflow_mul-end c =
-    omega (arith, ((let f = fits c.read_plan-read.ensures (ap told_number c.in-Fine.is) in
-    (f.room, f.size))).0)
+overflow_mul-end c = let f = fits c.read_plan-read.ensures (ap told_number c.in-Fine.is) in omega (arith, f.room)
 
 pub slice_bounds-numbers-end : goal.slice_bounds-numbers-end
-slice_bounds-numbers-end c =
-    omega (arith, ((let f = fits c.read_plan-read.ensures (ap told_number c.in-Fine.is) in
-    (f.room, f.size))).0, ((let f = fits c.read_plan-read.ensures (ap told_number c.in-Fine.is) in
-    (f.room, f.size))).1)
+slice_bounds-numbers-end c = let f = fits c.read_plan-read.ensures (ap told_number c.in-Fine.is) in omega (arith, f.room, f.size)
 
 pub slice_bounds-check_list-end : goal.slice_bounds-check_list-end
 slice_bounds-check_list-end c =
-    sym (length-take-le _ _ (omega (arith, ((let f = fits c.read_plan-read.ensures (ap told_number c.in-Fine.is) in
-    (f.room, f.size))).0, ((let f = fits c.read_plan-read.ensures (ap told_number c.in-Fine.is) in
-    (f.room, f.size))).1)))
+    let f = fits c.read_plan-read.ensures (ap told_number c.in-Fine.is) in
+    sym (length-take-le _ _ (omega (arith, f.room, f.size)))
 
 pub returns-in-Refused : goal.returns-in-Refused
 returns-in-Refused c = refuses_told refl c.read_plan-read.ensures c.in-Refused.is

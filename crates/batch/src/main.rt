@@ -7,8 +7,9 @@
 ghost use Rattle.std.specs.Prelude.{◌≡◌, length};
 
 use cases::{Header, JOB_NUMBERS};
-use libc::{STDIN_FILENO, STDOUT_FILENO};
 use shapes::{CheckVerdict, PlanVerdict};
+use std::io;
+use std::io::Write;
 use writing::Written;
 
 const PLAN_TEXT: u64 = 1;
@@ -56,15 +57,16 @@ fn room_for_line() -> [u8; LINE_SIZE]
     [0; LINE_SIZE]
 }
 
-fn print_line(numbers: &[u64]) -> bool {
+fn print_line(to: &mut impl Write, numbers: &[u64]) -> io::Result<bool> {
     let mut out = room_for_line();
     if let Written::To(end) = writing::line(numbers, &mut out, 0) {
-        return io::write_all(STDOUT_FILENO, &out[..end]);
+        to.write_all(&out[..end])?;
+        return Ok(true);
     }
-    false
+    Ok(false)
 }
 
-fn print_check(v: CheckVerdict) -> bool {
+fn print_check(to: &mut impl Write, v: CheckVerdict) -> io::Result<bool> {
     let line = shapes::check_line(v);
     let numbers = [
         line.number,
@@ -72,7 +74,7 @@ fn print_check(v: CheckVerdict) -> bool {
         line.drawing.profit,
         line.drawing.pieces,
     ];
-    print_line(&numbers)
+    print_line(to, &numbers)
 }
 
 // The numbers of the list stand behind those of the job; a job may have no list behind it.
@@ -113,32 +115,46 @@ fn put_head(v: PlanVerdict, holds: u64, line: &mut [u64]) {
     line[7] = holds;
 }
 
-fn plan(kind: u64, s: &[u8], arena: &mut [u8], fill: u8, line: &mut [u64]) -> bool {
+fn plan(
+    to: &mut impl Write,
+    kind: u64,
+    s: &[u8],
+    arena: &mut [u8],
+    fill: u8,
+    line: &mut [u64],
+) -> io::Result<bool> {
     if line.len() < HEAD {
-        return false;
+        return Ok(false);
     }
     cases::fill_bytes(arena, fill);
     cases::fill_numbers(&mut line[HEAD..]);
     let v = plan_case(kind, s, arena, &mut line[HEAD..]);
     let holds = cases::arena_holds(arena, fill);
     put_head(v, holds, line);
-    print_line(line)
+    print_line(to, line)
 }
 
 // A case that lends an arena and a buffer. False where they do not fit.
-fn plan_lent(h: Header, s: &[u8], arena: &mut [u8], line: &mut [u64]) -> bool {
+fn plan_lent(
+    to: &mut impl Write,
+    h: Header,
+    s: &[u8],
+    arena: &mut [u8],
+    line: &mut [u64],
+) -> io::Result<bool> {
     if (arena.len() as u64) < h.arena {
-        return false;
+        return Ok(false);
     }
     if line.len() < HEAD {
-        return false;
+        return Ok(false);
     }
     if ((line.len() - HEAD) as u64) < h.buffer {
-        return false;
+        return Ok(false);
     }
     let bytes = h.arena as usize;
     let numbers = HEAD + h.buffer as usize;
     plan(
+        to,
         h.kind,
         s,
         &mut arena[..bytes],
@@ -148,52 +164,70 @@ fn plan_lent(h: Header, s: &[u8], arena: &mut [u8], line: &mut [u64]) -> bool {
 }
 
 // Answers a case. False where its kind is unknown, or it does not fit.
-fn answer(h: Header, s: &[u8], arena: &mut [u8], line: &mut [u64]) -> bool {
+fn answer(
+    to: &mut impl Write,
+    h: Header,
+    s: &[u8],
+    arena: &mut [u8],
+    line: &mut [u64],
+) -> io::Result<bool> {
     let kind = h.kind;
     match kind {
-        PLAN_TEXT => plan_lent(h, s, arena, line),
-        PLAN_NUMBERS => plan_lent(h, s, arena, line),
-        CHECK_TEXT => print_check(checktext::check_text(s)),
-        CHECK_NUMBERS => print_check(check_numbers(s)),
-        _ => false,
+        PLAN_TEXT => plan_lent(to, h, s, arena, line),
+        PLAN_NUMBERS => plan_lent(to, h, s, arena, line),
+        CHECK_TEXT => print_check(to, checktext::check_text(s)),
+        CHECK_NUMBERS => print_check(to, check_numbers(s)),
+        _ => Ok(false),
     }
 }
 
 // Answers the case whose header stands at a place. The place behind the case, or the same place where there is no answer.
-fn answer_at(s: &[u8], at: usize, arena: &mut [u8], line: &mut [u64]) -> usize {
+fn answer_at(
+    to: &mut impl Write,
+    s: &[u8],
+    at: usize,
+    arena: &mut [u8],
+    line: &mut [u64],
+) -> io::Result<usize> {
     let h = cases::read_header(s, at);
     let from = h.from;
     if !h.understood {
-        return at;
+        return Ok(at);
     }
     if s.len() < from {
-        return at;
+        return Ok(at);
     }
     if ((s.len() - from) as u64) < h.bytes {
-        return at;
+        return Ok(at);
     }
     let end = from + h.bytes as usize;
-    if answer(h, &s[from..end], arena, line) {
-        return end;
+    if answer(to, h, &s[from..end], arena, line)? {
+        return Ok(end);
     }
-    at
+    Ok(at)
 }
 
-fn answer_all(s: &[u8], arena: &mut [u8], line: &mut [u64]) {
+fn answer_all(
+    to: &mut impl Write,
+    s: &[u8],
+    arena: &mut [u8],
+    line: &mut [u64],
+) -> io::Result<()> {
     let mut at = 0;
     while at < s.len() {
-        let next = answer_at(s, at, arena, line);
+        let next = answer_at(to, s, at, arena, line)?;
         if next <= at {
-            return;
+            return Ok(());
         }
         at = next;
     }
+    Ok(())
 }
 
-fn main() {
+fn main(rt: HostRuntime) -> io::Result<()> {
     let mut input = room_for_input();
     let mut arena = room_for_arena();
     let mut line = room_for_numbers();
-    let n = io::read_full(STDIN_FILENO, &mut input);
-    answer_all(&input[..n], &mut arena, &mut line);
+    let n = input::read_full(&mut rt.stdin(), &mut input)?;
+    answer_all(&mut rt.stdout(), &input[..n], &mut arena, &mut line)
 }

@@ -1,6 +1,7 @@
 // The best outline of a list, with all its ties: the greatest profit, then the least length, then the least width, then the counts that come first.
 // The planner calls `best` on the records it has listed, and `profit` and `pieces` on the one chosen.
 #![tactic(auto)]
+
 ghost use Rattle.std.specs.Prelude.{◌≡◌, ◌*◌, ◌≤◌, ◌<◌, length, take};
 ghost use Rattle.rules.specs.Limits.{types_most, profit_most};
 ghost use Rattle.rules.specs.Job.{profit, pieces};

@@ -12,13 +12,13 @@ use Rattle.rules.proofs.Bools.{and_both, both_and}
 use Rattle.rules.proofs.Outlines.{same_list}
 use Rattle.rules.specs.Planner.{room_of}
 use Rattle.arena.specs.Bytes.{word}
-use Rattle.arena.specs.Records.{record_at, size_of, link_place, link_at, links_most, Linked}
+use Rattle.arena.specs.Records.{record_at, size_of, link_place, link_at, Linked}
 use Rattle.weighing.specs.Weights.{weighed, bucket_of}
 use Rattle.weighing.proofs.Laws.{spread_below}
 use Rattle.classes.specs.Directory.{chain_link, head_link, end_link, counts_at, chain_in, Class, Directory, Begins, Enterable, Entered, Kept}
 use Rattle.classes.specs.Chains.{Reach, here, next, Chain, none, some}
 use Rattle.classes.proofs.Chains.{Chase, chase_end, chain_stays, reach_stays}
-use Rattle.classes.specs.Orders.{Ordered, size_in, named_in, InOrderOf}
+use Rattle.classes.specs.Orders.{Ordered, InOrderOf}
 
 -- the same order where the sizes are the same
 pub ordered_size : {size other f : ℕ → ℕ} {start n : ℕ} → ((i : ℕ) → other i ≡ size i) → Ordered size f start n → Ordered other f start n

@@ -1,5 +1,5 @@
 -- Counts with one piece less: what they weigh, and as far as they have been looked for. Assumes nothing.
-use mathlib.Core.Path.{◌≡◌, refl, sym, ap, ◌∙◌, subst}
+use mathlib.Core.Path.{◌≡◌, sym, ap, ◌∙◌, subst}
 use mathlib.Core.Bool.{true, false, true≢false}
 use mathlib.Core.List.{List}
 use Prim.Native.Nat.{ℕ, ◌+◌, ◌-◌, ◌≤◌, ◌<◌}
@@ -9,7 +9,7 @@ use lib.ListN.{length, get_or, set, take}
 use lib.Seq.{get_or-take, length-take-le, take-set-lt}
 use Rattle.weighing.specs.Weights.{weight_of, weighed}
 use Rattle.weighing.proofs.Laws.{weighed_less}
-use Rattle.classes.specs.Directory.{counts_at, less_of, Lacking, LacksLess}
+use Rattle.classes.specs.Directory.{counts_at, less_of, LacksLess}
 
 module _ {types : ℕ} (counts : List ℕ) {t : ℕ} (among : t < types) where
   same_count : get_or (take types counts) t 0 ≡ get_or counts t 0

@@ -21,7 +21,6 @@ use Rattle.arena.specs.declared.Record.{Record}
 use Rattle.arena.specs.declared.How.TheVariants.{Joined}
 use Rattle.outline.specs.declared.Way.TheVariants.{Beside, Above}
 use Rattle.arena.specs.Records.{record_at, size_of, Loaded}
-use Rattle.classes.specs.Orders.{size_in}
 use Rattle.classes.specs.Directory.{counts_at, Directory}
 use Rattle.seeking.specs.Opened.{Findable, SizedAs, Seekable, Appendable, Appended}
 use Rattle.classes.proofs.Laws.{directory_kept, kept_self, kept_then}

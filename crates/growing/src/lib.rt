@@ -1,6 +1,7 @@
 // A class of outlines that grows at the arena's end: builds with the same counts come behind its first record, each once.
 // Whoever lists outlines class by class calls this crate. An outline of the class can only stand in the class, so that nothing else is searched.
 #![tactic(auto)]
+
 ghost use Rattle.std.specs.Prelude.{◌≡◌, true, false, max};
 ghost use Rattle.seeking.specs.Opened.{Seekable};
 ghost use Rattle.outline.specs.Stands.{outline_of, way_of};

@@ -9,7 +9,6 @@ use native.Mathlib.Numerals.{add-one}
 use borrow.Author.Count.{below_more}
 use lib.ListN.{length, get_or, length-append, length-map, get_or-append, get_or-map}
 use Rattle.rules.specs.Bag.{nil}
-use Rattle.rules.specs.Box.{Way}
 use Rattle.rules.specs.Made.{no_one, one}
 use Rattle.rules.specs.Job as rules
 use Rattle.rules.specs.Numbers.{PieceType, no_type, grown, singles_from}

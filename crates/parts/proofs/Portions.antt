@@ -5,7 +5,6 @@ use mathlib.Core.Logic.{◌⊎◌, inl, inr}
 use mathlib.Core.List.{List, [], ◌∷◌}
 use Prim.Native.Nat.{ℕ, zero, suc, ◌+◌, ◌*◌, ◌-◌, ◌/◌, ◌≤◌, ◌<◌}
 use native.Mathlib.Omega.{arith}
-use native.Mathlib.Nat.{add-mul}
 use native.Mathlib.Decide.{ℕ_discrete}
 use lib.ListN.{length, get_or, set, take, replicate, length-set}
 use lib.Seq.{get_or-take, length-take-le, take-set-lt, get_or-set_same, get_or-set_other}
@@ -15,7 +14,7 @@ use Rattle.tally.specs.Bounds.{counts_most}
 use Rattle.weighing.specs.Weights.{weight_most, weight_of, weighed}
 use Rattle.weighing.proofs.Laws.{weighed_set, weighed_most}
 use Rattle.parts.specs.declared.Step.{Step}
-use Rattle.parts.specs.Parts.{digit, half_of, Portion, portion, PortionOf, Risen, Stuck, Stepped}
+use Rattle.parts.specs.Parts.{digit, Portion, PortionOf, Risen, Stuck, Stepped}
 use Rattle.parts.proofs.Parts.{stuck_full, stuck_spare}
 
 sum-set : (l : List ℕ) (i v : ℕ) → i < length l → sum (set l i v) + get_or l i 0 ≡ sum l + v

@@ -2,6 +2,7 @@
 // Whoever makes a class of pairs of classes calls this crate: the first half's counts are such a part, the second half's the rest, and both are found by what they weigh.
 // It promises that no such part is passed over.
 #![tactic(auto)]
+
 ghost use Rattle.std.specs.Prelude.{◌≡◌, ℕ, suc, ◌+◌, ◌*◌, ◌≤◌, ◌<◌, leb, set, take};
 ghost use Rattle.rules.specs.Limits.{types_most, records_most};
 ghost use Rattle.parts.specs.Parts.{digit, portion, PortionOf, MayRise, Risen, Stepped, parts_of};

@@ -1,8 +1,7 @@
 -- A record of the open class is found by its sizes. Assumes nothing.
-use mathlib.Core.Path.{◌≡◌, refl, sym, ap, ap₂, ◌∙◌, subst}
-use mathlib.Core.Bool.{true, false}
-use mathlib.Core.List.{List, [], ◌∷◌}
-use Prim.Native.Nat.{ℕ, suc, ◌+◌, ◌-◌, ◌≤◌, ◌<◌}
+use mathlib.Core.Path.{◌≡◌, sym, ap, ap₂, ◌∙◌, subst}
+use mathlib.Core.List.{List}
+use Prim.Native.Nat.{ℕ, suc, ◌≤◌, ◌<◌}
 use native.Mathlib.Omega.{arith}
 use native.Mathlib.Decide.{ℕ_discrete}
 use lib.ListN.{length}
@@ -10,12 +9,9 @@ use Rattle.rules.specs.Planner.{room_of}
 use Rattle.arena.specs.declared.Record.{Record}
 use Rattle.arena.specs.Records.{record_at, size_of, link_at, links_most, Stored, StoredAlone, Linked}
 use Rattle.classes.specs.Chains.{Reach, here, next, Chain}
-use Rattle.classes.specs.Orders.{size_in}
-use Rattle.weighing.specs.Weights.{weighed}
-use Rattle.weighing.proofs.Laws.{spread_below}
-use Rattle.classes.specs.Directory.{end_link, chain_link, head_link, chain_in, Kept}
+use Rattle.classes.specs.Directory.{end_link, chain_link, head_link, chain_in}
 use Rattle.seeking.specs.Opened.{place_of, place_at, Findable, SizedAs, HeadAt, Seekable, Notable, Noted, Appendable, Appended}
-use Rattle.classes.proofs.Chains.{Chase, chain_down, chain_stays, reach_stays}
+use Rattle.classes.proofs.Chains.{Chase, chain_down, reach_stays}
 
 -- a record of the open class
 pub record Within (start n q : ℕ) : Type 0 where

@@ -3,6 +3,7 @@
 // to the room's last, names the last record of the place, and link 3 of that record the one before it. A head that an earlier class left names none of the class.
 // It promises that every record that was appended is found, and no other.
 #![tactic(auto)]
+
 ghost use Rattle.std.specs.Prelude.{◌≡◌, ◌≤◌, ◌<◌, length};
 ghost use Rattle.rules.specs.Planner.{room_of};
 ghost use Rattle.seeking.specs.Opened.{place_of, Placeable, HeadAt, SameSizes, Seekable, SoughtIn, Notable, Noted, Appendable, Appended};

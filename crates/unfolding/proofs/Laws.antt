@@ -12,7 +12,7 @@ use Rattle.rules.specs.Numbers.{Entry}
 use Rattle.rules.specs.Placed.{Placed}
 use Rattle.rules.proofs.Bags.{map-append}
 use Rattle.rules.proofs.Lay.{next_x, next_y}
-use Rattle.rules.proofs.Unfold.{joined, Rec, at, Lays, Halves, lays_piece, lays_joined}
+use Rattle.rules.proofs.Unfold.{Rec, at, Lays, Halves, lays_piece, lays_joined}
 use Rattle.rules.proofs.Arrange.{entry_of, flat, length-flat}
 use Rattle.outline.specs.declared.Outline.{Outline}
 use Rattle.outline.specs.Stands.{outline_of, way_of}

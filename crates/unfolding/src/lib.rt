@@ -1,6 +1,7 @@
 // "each joined outline is unfolded into its two halves: the second half's placements go into the buffer behind the first half's."
 // The planner calls `lay` on the chosen record. It goes by recursion over the arena's records: a record's halves have smaller indexes.
 #![tactic(auto)]
+
 ghost use Rattle.std.specs.Prelude.{◌≡◌, ◌∷◌, ◌≤◌, length, drop};
 ghost use Rattle.outline.specs.Stands.{Sized};
 ghost use Rattle.unfolding.specs.Laying.{Near, IsNext, Placeable, IsNode, Layable, LaidOut};

@@ -1,6 +1,8 @@
 // The class with given counts, made of pairs of classes that add up to them: a first half with at most half of the pieces, and a second with the rest.
 // Whoever lists outlines class by class calls `grow_class`. It promises every join of such a pair that need be tried. First halves are found by walking
 // the parts of the counts, each looked up by what it weighs, or by walking the classes, where these are few.
+#![tactic(auto)]
+
 ghost use Rattle.std.specs.Prelude.{◌≡◌, length, take};
 ghost use Rattle.rules.specs.Limits.{types_most};
 ghost use Rattle.weighing.specs.Weights.{weighed};

@@ -4,6 +4,7 @@
 // Each case gets one line: the answer, and for a plan what is in the arena (0 zeros, 1 all F, 2 else) and every number of the buffer.
 // The run ends at the first case that is not understood or does not fit. What is tested is in the crates below; here numbers are read and printed.
 #![tactic(auto)]
+
 ghost use Rattle.std.specs.Prelude.{◌≡◌, length};
 
 use cases::{Header, JOB_NUMBERS};
@@ -207,12 +208,7 @@ fn answer_at(
     Ok(at)
 }
 
-fn answer_all(
-    to: &mut impl Write,
-    s: &[u8],
-    arena: &mut [u8],
-    line: &mut [u64],
-) -> io::Result<()> {
+fn answer_all(to: &mut impl Write, s: &[u8], arena: &mut [u8], line: &mut [u64]) -> io::Result<()> {
     let mut at = 0;
     while at < s.len() {
         let next = answer_at(to, s, at, arena, line)?;

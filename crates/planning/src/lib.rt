@@ -2,6 +2,7 @@
 // `plan_job` takes any numbers, and the answers to texts and of the program rest on it. Its contract determines the answer, and every byte and
 // number of both buffers, on every input; which placements of the best outline's counts it writes within that outline is left open.
 #![tactic(auto)]
+
 ghost use Rattle.rules.specs.Answers.{PlanNumbers};
 ghost use Rattle.shapes.specs.Answer.{plan_answer};
 ghost use Rattle.shapes.specs.Handed.{items_of, JobInRange};

@@ -2,6 +2,7 @@
 // The program `plan` and the static library call it. It promises the refusal table's answer on every sequence of bytes:
 // 11 for an input that is too long, then 1, 2, 3, 4, 5, or the best plan; and what stands in arena and plan buffer afterwards.
 #![tactic(auto)]
+
 ghost use Rattle.rules.specs.Answers.{PlanText, PlanInput};
 ghost use Rattle.shapes.specs.Answer.{plan_answer};
 

@@ -2,6 +2,7 @@
 // `include/varandeco.h` describes the four functions for their callers. Each takes any slices, empty ones too, and promises the refusal table's answer,
 // what stands in every lent slice afterwards, and that the answer's numbers were handed out as far as the lent answer has room.
 #![tactic(auto)]
+
 ghost use Rattle.rules.specs.Answers.{PlanNumbers, PlanText, CheckNumbers, CheckText};
 ghost use Rattle.handing.specs.Reply.{plan_numbers, check_numbers, Reply};
 ghost use Rattle.handing.specs.Slice.{slice_items};

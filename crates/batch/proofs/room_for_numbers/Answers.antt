@@ -1,0 +1,7 @@
+-- `batch::room_for_numbers` meets its contract: so many zeros. Assumes nothing.
+use Rattle.std.proofs.Common.{ℕ, sym}
+use lib.ListN.{length-replicate}
+use Rattle.batch.proofs.room_for_numbers.Goals as goal
+
+pub returns : goal.returns
+returns c = sym (length-replicate {0} {A = ℕ} 8192 0)

@@ -17,6 +17,8 @@ import sys
 LIBRARY = set("length take drop map get_or set count mul add sub div mod max min append flat zip sum nil cons".split())
 # names of `src/` are never respelled, and neither is what the library declares with a capital inside
 KEEP = set("lacks_Less shr_slice_Tells walk_Meets scaled_Fits shr_slice_Lawful uint_Tells uint_Makes".split())
+# a definition whose new name some proofs give a step of their own: no file has both
+APART = {"oneMore"}
 TOKEN = r"[^\s(){}\[\],;.@\"`:|\\]+"
 
 
@@ -36,7 +38,7 @@ def without_comment(line):
 
 def declared():
     """The names that the files declare: those of definitions, those of lemmas, and those of answers to goals."""
-    definitions, lemmas, answers = set(), set(), set()
+    definitions, lemmas, answers, local, shared = set(), set(), set(), set(), set()
     head = re.compile(r"^\s*((?:(?:pub|abbrev|unfoldable|unfold)\s+)*)(" + TOKEN + r")\s+:\s+(.*)$")
     for p in files():
         for line in open(p, encoding="utf-8"):
@@ -44,13 +46,15 @@ def declared():
             if not m:
                 continue
             mods, name, type_ = m.groups()
+            (local if in_function(p) and "pub" not in mods else shared).add(name)
             if in_function(p) and (re.match(r"tie\b|[\w-]+\.Need-", type_) or "/proofs/+" in p or name.endswith("-spec") or re.match(r"(invariant|decreases)-", name)):
                 answers.add(name)
             elif "abbrev" in mods or "unfold" in mods:
                 definitions.add(name)
             else:
                 lemmas.add(name)
-    return definitions, lemmas, answers
+    # a name that only the proof of one function has falls together with nothing
+    return definitions, lemmas, answers, local - shared
 
 
 def small(name):
@@ -79,7 +83,7 @@ def joined(parts, functions):
 
 
 def mapping():
-    definitions, lemmas, answers = declared()
+    definitions, lemmas, answers, local = declared()
     tokens = set()
     for p in files():
         for line in open(p, encoding="utf-8"):
@@ -100,7 +104,7 @@ def mapping():
             names[t] = new
     groups = {}
     for t in sorted(definitions | lemmas | set(names)):
-        if t not in answers:
+        if t not in answers and t not in local and t not in APART:
             groups.setdefault(names.get(t, t), []).append(t)
     for new, olds in sorted(groups.items()):
         # a definition comes first, then a name that stands as it is

@@ -7,7 +7,7 @@ use native.Mathlib.Numerals.{add-one}
 use lib.ListN.{length, get_or, set, take, drop, replicate, length-set, length-take, length-drop, length-append, drop_of_length-le}
 use lib.Seq.{take_at, drop_at, get_or-take, get_or-append-add, take-set-lt}
 use Rattle.rules.specs.Limits.{types_most, record_bytes}
-use Rattle.rules.proofs.Classes.{one_more_lem, more_set}
+use Rattle.rules.proofs.Classes.{one_more, more_set}
 use Rattle.outline.specs.declared.Way.TheVariants.{Beside, Above}
 use Rattle.arena.specs.declared.How.{How}
 use Rattle.arena.specs.declared.How.TheVariants.{Piece, Joined}
@@ -113,7 +113,7 @@ behind_steps l w k s s1 s2 s3 s4 z h e1 e2 e3 e4 ez =
     rw (ez, hz, hk, none, f) refl
 
 -- one piece more among the first n types
-pub more_of : (n t : ℕ) (c : List ℕ) → t < n → take n (set c t (get_or c t 0 + 1)) ≡ one_more_lem t (take n c)
+pub more_of : (n t : ℕ) (c : List ℕ) → t < n → take n (set c t (get_or c t 0 + 1)) ≡ one_more t (take n c)
 more_of n t c h = take-set-lt n c t (get_or c t 0 + 1) h ∙ ap (set (take n c) t) (add-one (get_or c t 0) ∙ ap suc (sym (get_or-take n c t 0 h))) ∙ sym (more_set t (take n c))
 
 -- what stands behind the counts is written behind them

@@ -10,7 +10,7 @@ ghost use Rattle.rules.specs.Bag.{sum};
 ghost use Rattle.rules.specs.Job.{plus};
 ghost use Rattle.rules.specs.Planner.{room_of};
 ghost use Rattle.rules.proofs.Outlines.{same_list, at_most};
-ghost use Rattle.rules.proofs.Classes.{one_more_lem};
+ghost use Rattle.rules.proofs.Classes.{one_more};
 ghost use Rattle.tally.specs.Bounds.{byte_most, counts_most, BoundsOf};
 ghost use Rattle.outline.specs.Stands.{two_bytes};
 ghost use Rattle.arena.specs.Bytes.{word, put_word, behind, link_of, how_of, encode, decode};
@@ -274,7 +274,7 @@ pub fn pieces_at(arena: &[u8], i: usize, types: usize) -> usize
 // The counts of record i with one piece more of type t, counted from 0, for a job of so many types.
 pub fn more_at(arena: &[u8], i: usize, t: usize, types: usize) -> [u8; TYPES_MOST]
     requires { (i < room_of (length arena.now)) × (types ≤ types_most) × (t < types) × (get_or (record_at arena.now i).outline.counts t 0 < byte_most) }
-    ensures { take types result ≡ one_more_lem t (take types (record_at arena.now i).outline.counts) }
+    ensures { take types result ≡ one_more t (take types (record_at arena.now i).outline.counts) }
 {
     let at = i * RECORD_BYTES;
     let end = at + RECORD_BYTES;

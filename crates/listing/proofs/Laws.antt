@@ -14,7 +14,7 @@ use Rattle.rules.specs.Planner.{room_of}
 use Rattle.rules.proofs.Accept.{job_typed}
 use Rattle.rules.proofs.Bags.{index}
 use Rattle.rules.proofs.Bridge.{join}
-use Rattle.rules.proofs.Classes.{NoneAfter, one_more_lem, more_set, turned, sum_more, some_pieces, one_less, Rising, Next, below_in, all_in}
+use Rattle.rules.proofs.Classes.{NoneAfter, one_more, more_set, turned, sum_more, some_pieces, one_less, Rising, Next, below_in, all_in}
 use Rattle.rules.proofs.Halves.{In, Able, whole_in, whole_over, more_at}
 use Rattle.rules.proofs.Outlines.{counts_length}
 use Rattle.rules.proofs.Tally.{sum_plus}
@@ -48,7 +48,7 @@ some_at : {job : Job} {s : List ℕ} {n : ℕ} → Ready job s n → (i : ℕ) �
 some_at {job} r i h = some_pieces (job_typed (numbers_of job)) (build_at r i h)
 
 -- one piece less than one piece more
-less_more : (t : ℕ) (a c : List ℕ) → one_more_lem t a ≡ c → t < length a → a ≡ less_of c t
+less_more : (t : ℕ) (a c : List ℕ) → one_more t a ≡ c → t < length a → a ≡ less_of c t
 less_more t a c e l =
     let f = sym e ∙ more_set t a in
     let g : get_or c t 0 - 1 ≡ get_or a t 0 = omega (arith, ap (λ v. get_or v t 0) f, get_or-set_same a t (suc (get_or a t 0)) 0 l) in
@@ -223,7 +223,7 @@ target_none {job} {s = s} {n = n} {c = c} h k = followed_self h.classed (λ o b 
         let z : sum c ≡ suc (rules.pieces r.outline) = ap sum (sym d) ∙ sum_more k.type r.outline.counts (omega (arith, k.among)) in
         here r.outline d l (index no_outline (h.below r.outline r.build (omega arith)))
       where
-        here : (a : rules.Outline) → one_more_lem k.type a.counts ≡ c → length a.counts ≡ job.count → (i : ℕ) × (i < length (outlines_in job s n)) × (get_or (outlines_in job s n) i no_outline ≡ a) → ⊥
+        here : (a : rules.Outline) → one_more k.type a.counts ≡ c → length a.counts ≡ job.count → (i : ℕ) × (i < length (outlines_in job s n)) × (get_or (outlines_in job s n) i no_outline ≡ a) → ⊥
         here a d l (i, li, ei) =
             let x : i < n = omega (arith, length_outlines job s n) in
             let f = ap (λ (u : rules.Outline). u.counts) (sym (outline_at_lem job.count s n i x) ∙ ei) in
@@ -238,18 +238,18 @@ module _ {job : Job} {least : Least} {s : List ℕ} {n half p : ℕ} (h : Source
   long : length (key_at job s p) ≡ job.count
   long = key_length h.classed.ready p h.here
 
-  pub more_sum : sum (one_more_lem t (key_at job s p)) ≡ suc (pieces_at job s p)
+  pub more_sum : sum (one_more t (key_at job s p)) ≡ suc (pieces_at job s p)
   more_sum = sum_more t (key_at job s p) (omega (arith, long))
 
   pub count_in : (x : ℕ) → x ≡ get_or (record_at s p).outline.counts t 0 → x ≡ get_or (key_at job s p) t 0
   count_in x e = e ∙ sym (get_or-take job.count (record_at s p).outline.counts t 0 among)
 
   -- there are as many already as are in demand
-  pub none_more : (d x : ℕ) → d ≡ (get_or job.types t no_piece).demand → x ≡ get_or (record_at s p).outline.counts t 0 → d ≤ x → (l : List rules.Outline) → WholeIn job (one_more_lem t (key_at job s p)) l
-  none_more d x ed ex le l = whole_over l (one_more_lem t (key_at job s p)) t
+  pub none_more : (d x : ℕ) → d ≡ (get_or job.types t no_piece).demand → x ≡ get_or (record_at s p).outline.counts t 0 → d ≤ x → (l : List rules.Outline) → WholeIn job (one_more t (key_at job s p)) l
+  none_more d x ed ex le l = whole_over l (one_more t (key_at job s p)) t
       (omega (arith, ed, count_in x ex, le, demand_at job h.classed.ready.range t among, more_at t (key_at job s p) (omega (arith, long))))
 
-  pub source_target : Target job least s n half (one_more_lem t (key_at job s p))
+  pub source_target : Target job least s n half (one_more t (key_at job s p))
   source_target = record {
     least_of = h.least_of;
     classed = h.classed;
@@ -259,8 +259,8 @@ module _ {job : Job} {least : Least} {s : List ℕ} {n half p : ℕ} (h : Source
     half_at = subst (λ k. HalfAt job least s n k half) (sym more_sum) h.half_at;
   }
 
-  pub more_follows : (c : List ℕ) → c ≡ one_more_lem t (key_at job s p) → (u : List ℕ) (r : Listed) → Follows job (WholeIn job c) (sum c) s n u r → Follows job (WholeIn job (one_more_lem t (key_at job s p))) (suc (pieces_at job s p)) s n u r
-  more_follows c e u r f = subst (λ k. Follows job (WholeIn job (one_more_lem t (key_at job s p))) k s n u r) more_sum (subst (λ k. Follows job (WholeIn job k) (sum k) s n u r) e f)
+  pub more_follows : (c : List ℕ) → c ≡ one_more t (key_at job s p) → (u : List ℕ) (r : Listed) → Follows job (WholeIn job c) (sum c) s n u r → Follows job (WholeIn job (one_more t (key_at job s p))) (suc (pieces_at job s p)) s n u r
+  more_follows c e u r f = subst (λ k. Follows job (WholeIn job (one_more t (key_at job s p))) k s n u r) more_sum (subst (λ k. Follows job (WholeIn job k) (sum k) s n u r) e f)
 
 -- classes have come behind: what was half is half
 module _ {job : Job} {P : List rules.Outline → Type 0} {k : ℕ} {s t : List ℕ} {n m : ℕ} (g : Followed job P k s n t m) where
@@ -310,7 +310,7 @@ module _ {job : Job} {P : List rules.Outline → Type 0} {k : ℕ} {s t : List �
 pub record Following (job : Job) (least : Least) (s : List ℕ) (n half p : ℕ) (t : List ℕ) (m after : ℕ) : Type 0 where
   pub upto : after ≤ job.count
   pub none : (u : ℕ) → after ≤ u → get_or (key_at job s p) u 0 ≡ 0
-  pub followed : Followed job (λ l. (u : ℕ) → after ≤ u → u < job.count → NoneAfter u (key_at job s p) → WholeIn job (one_more_lem u (key_at job s p)) l) (suc (pieces_at job s p)) s n t m
+  pub followed : Followed job (λ l. (u : ℕ) → after ≤ u → u < job.count → NoneAfter u (key_at job s p) → WholeIn job (one_more u (key_at job s p)) l) (suc (pieces_at job s p)) s n t m
 
 module _ {job : Job} {least : Least} {s : List ℕ} {n half p : ℕ} (h : Source job least s n half p) where
   pub following_start : Following job least s n half p s n job.count
@@ -343,23 +343,23 @@ module _ {job : Job} {least : Least} {s : List ℕ} {n half p : ℕ} (h : Source
 
     module _ (at : ℕ) (is : after ≡ suc at) where
       -- type `at` has been followed too
-      pub following_more : (u : List ℕ) (r : ℕ) → Followed job (WholeIn job (one_more_lem at (key_at job t p))) (suc (pieces_at job t p)) t m u r → Followed job (λ l. (v : ℕ) → at ≤ v → v < job.count → NoneAfter v (key_at job s p) → WholeIn job (one_more_lem v (key_at job s p)) l) (suc (pieces_at job s p)) s n u r
+      pub following_more : (u : List ℕ) (r : ℕ) → Followed job (WholeIn job (one_more at (key_at job t p))) (suc (pieces_at job t p)) t m u r → Followed job (λ l. (v : ℕ) → at ≤ v → v < job.count → NoneAfter v (key_at job s p) → WholeIn job (one_more v (key_at job s p)) l) (suc (pieces_at job s p)) s n u r
       following_more u r f = followed_then (λ l b e x y v. each l b x y v (ℕ_discrete v at)) g.followed
-          (subst (λ c. Followed job (WholeIn job (one_more_lem at c)) (suc (sum c)) t m u r) here_now f)
+          (subst (λ c. Followed job (WholeIn job (one_more at c)) (suc (sum c)) t m u r) here_now f)
         where
-          each : (l b : List rules.Outline) → ((v : ℕ) → after ≤ v → v < job.count → NoneAfter v (key_at job s p) → WholeIn job (one_more_lem v (key_at job s p)) l) → WholeIn job (one_more_lem at (key_at job s p)) (l ++ b) → (v : ℕ) → Dec (v ≡ at) → at ≤ v → v < job.count → NoneAfter v (key_at job s p) → WholeIn job (one_more_lem v (key_at job s p)) (l ++ b)
-          each l b x y v (yes e) lo hi no_one = subst (λ w. WholeIn job (one_more_lem w (key_at job s p)) (l ++ b)) (sym e) y
+          each : (l b : List rules.Outline) → ((v : ℕ) → after ≤ v → v < job.count → NoneAfter v (key_at job s p) → WholeIn job (one_more v (key_at job s p)) l) → WholeIn job (one_more at (key_at job s p)) (l ++ b) → (v : ℕ) → Dec (v ≡ at) → at ≤ v → v < job.count → NoneAfter v (key_at job s p) → WholeIn job (one_more v (key_at job s p)) (l ++ b)
+          each l b x y v (yes e) lo hi no_one = subst (λ w. WholeIn job (one_more w (key_at job s p)) (l ++ b)) (sym e) y
           each l b x y v (no e) lo hi no_one = whole_more job l b (x v (omega arith) hi no_one)
 
       -- class p has pieces of this type: no earlier one is its last
-      pub following_stop : {u : List ℕ} {r : ℕ} → Followed job (λ l. (v : ℕ) → at ≤ v → v < job.count → NoneAfter v (key_at job s p) → WholeIn job (one_more_lem v (key_at job s p)) l) (suc (pieces_at job s p)) s n u r → 0 < get_or (key_at job s p) at 0 → Followed job (NextIn job (key_at job s p)) (suc (pieces_at job s p)) s n u r
+      pub following_stop : {u : List ℕ} {r : ℕ} → Followed job (λ l. (v : ℕ) → at ≤ v → v < job.count → NoneAfter v (key_at job s p) → WholeIn job (one_more v (key_at job s p)) l) (suc (pieces_at job s p)) s n u r → 0 < get_or (key_at job s p) at 0 → Followed job (NextIn job (key_at job s p)) (suc (pieces_at job s p)) s n u r
       following_stop {u} {r} f some = followed_with f (λ v hi no_one. each v hi no_one (dec_lt v at))
         where
-          each : (v : ℕ) → v < job.count → NoneAfter v (key_at job s p) → Dec (v < at) → WholeIn job (one_more_lem v (key_at job s p)) (outlines_in job u r)
+          each : (v : ℕ) → v < job.count → NoneAfter v (key_at job s p) → Dec (v < at) → WholeIn job (one_more v (key_at job s p)) (outlines_in job u r)
           each v hi no_one (yes x) = absurd (omega (arith, some, no_one at x))
           each v hi no_one (no x) = f.grown.has v (omega arith) hi no_one
 
-      pub following_next : {u : List ℕ} {r : ℕ} → Followed job (λ l. (v : ℕ) → at ≤ v → v < job.count → NoneAfter v (key_at job s p) → WholeIn job (one_more_lem v (key_at job s p)) l) (suc (pieces_at job s p)) s n u r → get_or (key_at job s p) at 0 ≡ 0 → Following job least s n half p u r at
+      pub following_next : {u : List ℕ} {r : ℕ} → Followed job (λ l. (v : ℕ) → at ≤ v → v < job.count → NoneAfter v (key_at job s p) → WholeIn job (one_more v (key_at job s p)) l) (suc (pieces_at job s p)) s n u r → get_or (key_at job s p) at 0 ≡ 0 → Following job least s n half p u r at
       following_next f zero_at = record { upto = omega (arith, g.upto); none = λ v x. each v x (ℕ_discrete v at); followed = f }
         where
           each : (v : ℕ) → at ≤ v → Dec (v ≡ at) → get_or (key_at job s p) v 0 ≡ 0
@@ -439,7 +439,7 @@ module _ {job : Job} {s : List ℕ} {n p : ℕ} (h : Queued job s n p) where
   next_in : (q : ℕ) → q < n → q < p → Next (job_for job) (In (outlines_in job s n)) (get_or (outlines_in job s n) q no_outline)
   next_in q x y t l no_one =
       let e = ap (λ (o : rules.Outline). o.counts) (outline_in q x) in
-      subst (λ c. WholeIn job (one_more_lem t c) (outlines_in job s n)) (sym e) (h.next q y t (omega (arith, types_count job h.classed.ready.range)) (subst (NoneAfter t) e no_one))
+      subst (λ c. WholeIn job (one_more t c) (outlines_in job s n)) (sym e) (h.next q y t (omega (arith, types_count job h.classed.ready.range)) (subst (NoneAfter t) e no_one))
 
   -- class p comes next: all builds with no more pieces are listed
   pub queue_source : {least : Least} {halves : Halves} {k : ℕ} → LeastOf job least → p < n → k ≡ pieces_at job s p → Passed job least s n (k + 1) halves → Source job least s n halves.tried p
@@ -476,7 +476,7 @@ module _ {job : Job} {s : List ℕ} {n p : ℕ} (h : Queued job s n p) where
       each : Class job.count s n p → (q : ℕ) → q < link_at s p end_link → Dec (q < p) → NextIn job (key_at job t q) (outlines_in job t m)
       each k q y (yes w) = λ u lo no_one o b e.
           let f = key_follows g q (omega arith) in
-          in_follows g o (h.next q w u lo (subst (NoneAfter u) f no_one) o b (e ∙ ap (one_more_lem u) f))
+          in_follows g o (h.next q w u lo (subst (NoneAfter u) f no_one) o b (e ∙ ap (one_more u) f))
       each k q y (no w) =
           let f = key_follows g q (omega (arith, k.ends)) ∙ k.same q (omega arith) y in
           subst (λ c. NextIn job c (outlines_in job t m)) (sym f) g.grown.has

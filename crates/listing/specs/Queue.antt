@@ -3,7 +3,7 @@ use Rattle.std.specs.Prelude.{◌≡◌, List, ℕ, suc, ◌*◌, ◌≤◌, ◌
 use Rattle.rules.specs.Bag.{sum}
 use Rattle.rules.specs.Box.{Way}
 use Rattle.rules.specs.Job as rules
-use Rattle.rules.proofs.Classes.{Below, NoneAfter, one_more_lem}
+use Rattle.rules.proofs.Classes.{Below, NoneAfter, one_more}
 use Rattle.rules.proofs.Halves.{In, Whole}
 use Rattle.shapes.specs.declared.Job.{Job}
 use Rattle.shapes.specs.Handed.{JobInRange}
@@ -30,7 +30,7 @@ BelowIn job k l = Below (job_for job) (In l) k
 
 -- and so are those with one piece more, of the last type that there is or of a later one
 abbrev pub NextIn : Job → List ℕ → List rules.Outline → Type 0
-NextIn job c l = (t : ℕ) → t < job.count → NoneAfter t c → WholeIn job (one_more_lem t c) l
+NextIn job c l = (t : ℕ) → t < job.count → NoneAfter t c → WholeIn job (one_more t c) l
 
 -- n records in classes: all classes are whole, and they stand in order of their pieces
 pub record Classed (job : Job) (s : List ℕ) (n : ℕ) : Type 0 where

@@ -7,7 +7,7 @@
 ghost use Rattle.std.specs.Prelude.{◌≡◌, ◌<◌, ◌≤◌, suc, length, take};
 ghost use Rattle.rules.specs.Bag.{sum};
 ghost use Rattle.rules.specs.Limits.{types_most};
-ghost use Rattle.rules.proofs.Classes.{one_more_lem};
+ghost use Rattle.rules.proofs.Classes.{one_more};
 ghost use Rattle.rules.specs.Planner.{room_of};
 ghost use Rattle.outline.specs.Stands.{LeastOf};
 ghost use Rattle.weighing.specs.Weights.{weighed};
@@ -121,7 +121,7 @@ fn add_more(
     least: Least,
 ) -> Listed
     requires { Source job least arena.old n half p × (t < job.count) }
-    ensures { Follows job (WholeIn job (one_more_lem t (key_at job arena.old p))) (suc (pieces_at job arena.old p)) arena.old n arena.new result }
+    ensures { Follows job (WholeIn job (one_more t (key_at job arena.old p))) (suc (pieces_at job arena.old p)) arena.old n arena.new result }
 {
     if job.types[t].demand <= arena::count_at(arena, p, t) as u64 {
         return Listed::Complete(n);

@@ -22,16 +22,16 @@ use Rattle.rules.proofs.Bridge.{join, join_counts, made_join}
 use Rattle.rules.proofs.Outlines.{at_most, counts_length}
 
 -- one piece more of type t, counted from 0
-abbrev pub one_more_lem : ℕ → List ℕ → List ℕ
-one_more_lem t [] = []
-one_more_lem zero (c ∷ cs) = suc c ∷ cs
-one_more_lem (suc t) (c ∷ cs) = c ∷ one_more_lem t cs
+abbrev pub one_more : ℕ → List ℕ → List ℕ
+one_more t [] = []
+one_more zero (c ∷ cs) = suc c ∷ cs
+one_more (suc t) (c ∷ cs) = c ∷ one_more t cs
 
 -- there are none of the types after t
 abbrev pub NoneAfter : ℕ → List ℕ → Type 0
 NoneAfter t c = (u : ℕ) → t < u → get_or c u 0 ≡ 0
 
-plus_more_left : (t : ℕ) (a b : List ℕ) → plus (one_more_lem t a) b ≡ one_more_lem t (plus a b)
+plus_more_left : (t : ℕ) (a b : List ℕ) → plus (one_more t a) b ≡ one_more t (plus a b)
 plus_more_left zero [] b = refl
 plus_more_left (suc t) [] b = refl
 plus_more_left zero (x ∷ a) [] = refl
@@ -39,7 +39,7 @@ plus_more_left (suc t) (x ∷ a) [] = refl
 plus_more_left zero (x ∷ a) (y ∷ b) = let e : suc x + y ≡ suc (x + y) = omega arith in λ i. e i ∷ plus a b
 plus_more_left (suc t) (x ∷ a) (y ∷ b) = λ i. (x + y) ∷ plus_more_left t a b i
 
-plus_more_right : (t : ℕ) (a b : List ℕ) → plus a (one_more_lem t b) ≡ one_more_lem t (plus a b)
+plus_more_right : (t : ℕ) (a b : List ℕ) → plus a (one_more t b) ≡ one_more t (plus a b)
 plus_more_right zero [] b = refl
 plus_more_right (suc t) [] b = refl
 plus_more_right zero (x ∷ a) [] = refl
@@ -47,24 +47,24 @@ plus_more_right (suc t) (x ∷ a) [] = refl
 plus_more_right zero (x ∷ a) (y ∷ b) = let e : x + suc y ≡ suc (x + y) = omega arith in λ i. e i ∷ plus a b
 plus_more_right (suc t) (x ∷ a) (y ∷ b) = λ i. (x + y) ∷ plus_more_right t a b i
 
-pub sum_more : (t : ℕ) (c : List ℕ) → t < length c → sum (one_more_lem t c) ≡ suc (sum c)
+pub sum_more : (t : ℕ) (c : List ℕ) → t < length c → sum (one_more t c) ≡ suc (sum c)
 sum_more t [] h = absurd (omega arith)
 sum_more zero (c ∷ cs) h = omega arith
 sum_more (suc t) (c ∷ cs) h = omega (arith, sum_more t cs (omega arith))
 
-pub length_more : (t : ℕ) (c : List ℕ) → length (one_more_lem t c) ≡ length c
+pub length_more : (t : ℕ) (c : List ℕ) → length (one_more t c) ≡ length c
 length_more zero [] = refl
 length_more (suc t) [] = refl
 length_more zero (c ∷ cs) = refl
 length_more (suc t) (c ∷ cs) = ap suc (length_more t cs)
 
-pub more_set : (t : ℕ) (c : List ℕ) → one_more_lem t c ≡ set c t (suc (get_or c t 0))
+pub more_set : (t : ℕ) (c : List ℕ) → one_more t c ≡ set c t (suc (get_or c t 0))
 more_set zero [] = refl
 more_set (suc t) [] = refl
 more_set zero (c ∷ cs) = refl
 more_set (suc t) (c ∷ cs) = λ i. c ∷ more_set t cs i
 
-at_most_less : (t : ℕ) (c d : List ℕ) → AtMost (one_more_lem t c) d → AtMost c d
+at_most_less : (t : ℕ) (c d : List ℕ) → AtMost (one_more t c) d → AtMost c d
 at_most_less t [] d h = tt
 at_most_less zero (c ∷ cs) [] h = absurd h
 at_most_less (suc t) (c ∷ cs) [] h = absurd h
@@ -78,7 +78,7 @@ plus_zeros (x ∷ c) [] e z = absurd (omega arith)
 plus_zeros (x ∷ c) (y ∷ b) e z = let p : x + y ≡ y = omega arith in λ i. p i ∷ plus_zeros c b (omega arith) (omega arith) i
 
 -- counts of a single piece
-unit_plus : (t : ℕ) (c b : List ℕ) → length c ≡ length b → 0 < get_or c t 0 → sum c ≡ 1 → plus c b ≡ one_more_lem t b
+unit_plus : (t : ℕ) (c b : List ℕ) → length c ≡ length b → 0 < get_or c t 0 → sum c ≡ 1 → plus c b ≡ one_more t b
 unit_plus t [] b e h z = absurd (omega arith)
 unit_plus t (x ∷ c) [] e h z = absurd (omega arith)
 unit_plus zero (x ∷ c) (y ∷ b) e h z = let p : x + y ≡ suc y = omega arith in λ i. p i ∷ plus_zeros c b (omega arith) (omega arith) i
@@ -145,7 +145,7 @@ last_type (x ∷ c) h = go (dec_lt 0 (sum c)) (last_type c)
         later zero l = absurd (omega arith)
         later (suc u) l = zeros_at c (omega arith) u
 
-none_after_less : (t : ℕ) (c : List ℕ) → NoneAfter t (one_more_lem t c) → NoneAfter t c
+none_after_less : (t : ℕ) (c : List ℕ) → NoneAfter t (one_more t c) → NoneAfter t c
 none_after_less t [] n u l = refl
 none_after_less t (x ∷ c) n zero l = absurd (omega arith)
 none_after_less zero (x ∷ c) n (suc u) l = n (suc u) l
@@ -155,7 +155,7 @@ none_after_less (suc t) (x ∷ c) n (suc u) l = none_after_less t c (λ v k. n (
 pub record Less (j : Job) (t : ℕ) (o : Outline) : Type 0 where
   pub outline : Outline
   pub build : Build j outline
-  pub counts : one_more_lem t outline.counts ≡ o.counts
+  pub counts : one_more t outline.counts ≡ o.counts
   pub long : outline.long ≤ o.long
   pub wide : outline.wide ≤ o.wide
 
@@ -177,7 +177,7 @@ module _ {j : Job} (typed : All (λ p. Typed j p.type) j.singles) where
   some_pieces (beside p q k) = omega (arith, join_pieces along p q, some_pieces p)
   some_pieces (above p q k) = omega (arith, join_pieces across p q, some_pieces p)
 
-  smaller_fits : (t : ℕ) (a o : Outline) → Fits j o → one_more_lem t a.counts ≡ o.counts → a.long ≤ o.long → a.wide ≤ o.wide → Fits j a
+  smaller_fits : (t : ℕ) (a o : Outline) → Fits j o → one_more t a.counts ≡ o.counts → a.long ≤ o.long → a.wide ≤ o.wide → Fits j a
   smaller_fits t a o f e l w = record {
     long = omega (arith, f.long);
     wide = omega (arith, f.wide);
@@ -188,8 +188,8 @@ module _ {j : Job} (typed : All (λ p. Typed j p.type) j.singles) where
     -- a piece is taken from the first half, of which something is left
     less_first : Less j t a → Less j t (join w a b)
     less_first r =
-        let c : one_more_lem t (join w r.outline b).counts ≡ (join w a b).counts =
-        ap (one_more_lem t) (join_counts w r.outline b) ∙ sym (plus_more_left t r.outline.counts b.counts) ∙ ap (λ x. plus x b.counts) r.counts ∙ sym (join_counts w a b) in
+        let c : one_more t (join w r.outline b).counts ≡ (join w a b).counts =
+        ap (one_more t) (join_counts w r.outline b) ∙ sym (plus_more_left t r.outline.counts b.counts) ∙ ap (λ x. plus x b.counts) r.counts ∙ sym (join_counts w a b) in
         let l = long_first w r.outline r.long r.wide in
         record { outline = join w r.outline b; build = made_join w r.build q (smaller_fits t _ (join w a b) k c l.0 l.1); counts = c; long = l.0; wide = l.1 }
       where
@@ -242,7 +242,7 @@ module _ (j : Job) (P : Outline → Type 0) where
 
   -- of the classes that are reached from an outline: one piece more of a type, its last or a later one
   abbrev pub Next : Outline → Type 0
-  Next a = (t : ℕ) → t < types j → NoneAfter t a.counts → Class (one_more_lem t a.counts)
+  Next a = (t : ℕ) → t < types j → NoneAfter t a.counts → Class (one_more t a.counts)
 
   -- of every build with fewer than s pieces
   abbrev pub Below : ℕ → Type 0

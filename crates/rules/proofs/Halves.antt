@@ -13,7 +13,7 @@ use Rattle.rules.specs.Job.{Job, Outline, Fits, Build, AtMost, plus, pieces}
 use Rattle.rules.proofs.Bags.{all_at}
 use Rattle.rules.proofs.Bridge.{join}
 use Rattle.rules.proofs.Tally.{Typed}
-use Rattle.rules.proofs.Classes.{Below, Class, Starts, Marked, turned, ends_join, class_in, one_more_lem, join_pieces, some_pieces}
+use Rattle.rules.proofs.Classes.{Below, Class, Starts, Marked, turned, ends_join, class_in, one_more, join_pieces, some_pieces}
 use Rattle.rules.proofs.Listing.{made_kept}
 use Rattle.rules.proofs.Least.{size_by, Least, ends_least}
 
@@ -61,7 +61,7 @@ count_in (suc t) (x ∷ c) (y ∷ d) h = count_in t c d h.1
 pub whole_over : {j : Job} (l : List Outline) (c : List ℕ) (t : ℕ) → get_or j.demands t 0 < get_or c t 0 → Whole j l c
 whole_over {j} l c t h o d e = absurd (omega (arith, count_in t o.counts j.demands (made_kept d).counts, ap (λ u. get_or u t 0) e))
 
-pub more_at : (t : ℕ) (c : List ℕ) → t < length c → get_or (one_more_lem t c) t 0 ≡ suc (get_or c t 0)
+pub more_at : (t : ℕ) (c : List ℕ) → t < length c → get_or (one_more t c) t 0 ≡ suc (get_or c t 0)
 more_at t [] h = absurd (omega arith)
 more_at zero (x ∷ c) h = refl
 more_at (suc t) (x ∷ c) h = more_at t c (omega arith)

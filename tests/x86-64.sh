@@ -13,10 +13,13 @@ skip() {
 }
 
 need_library() {
-    mkdir -p target
+    top=.
+    . tests/fresh.sh
     library=target/staticlib/libvarandeco.a
-    if [ ! -f "$library" ] || [ -n "$(find crates crates.txt -newer "$library" -type f | head -n 1)" ]; then
-        rt staticlib varandeco >target/staticlib.log 2>&1 || { cat target/staticlib.log; exit 1; }
+    if ! is_fresh "$library"; then
+        mkdir -p target/staticlib
+        (cd crates/varandeco && rt lib) >target/staticlib.log 2>&1 || { cat target/staticlib.log; exit 1; }
+        cp crates/varandeco/out/libvarandeco.a "$library"
     fi
 }
 

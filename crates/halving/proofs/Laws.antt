@@ -1,12 +1,11 @@
 -- A class is made of pairs: class a with the class of the rest, and the walk over the classes before half. Assumes nothing.
-use mathlib.Core.Path.{◌≡◌, refl, sym, ap, ap₂, ◌∙◌, subst}
+use mathlib.Core.Path.{◌≡◌, sym, ap, ap₂, ◌∙◌, subst}
 use mathlib.Core.Bool.{true, false, true≢false}
 use mathlib.Core.List.{List, ◌++◌}
 use Prim.Native.Nat.{ℕ, ◌≤◌, ◌<◌}
 use native.Mathlib.Omega.{arith}
 use native.Mathlib.Decide.{dec_lt}
 use lib.ListN.{length, take}
-use Rattle.rules.specs.Box.{Way}
 use Rattle.rules.specs.Job as rules
 use Rattle.rules.proofs.Classes.{turned, at_most_plus, plus_cancel}
 use Rattle.rules.proofs.Halves.{Able}
@@ -20,7 +19,6 @@ use Rattle.classes.proofs.Laws.{class_at, class_kept, next_begins}
 use Rattle.outlines.specs.Listing.{outlines_in}
 use Rattle.outlines.specs.declared.Listed.{Listed}
 use Rattle.growing.specs.Growing.{Growing, Came, Comes, pair_of}
-use Rattle.growing.specs.Rows.{Rowsable}
 use Rattle.growing.proofs.Laws.{came_self, came_then, came_with, comes_map}
 use Rattle.growing.proofs.Rows.{join_stays}
 use Rattle.pairing.specs.Pairs.{key_at, PairReady, PairIn}

@@ -1,13 +1,11 @@
 -- The parts of counts are tried one after the other: each class that may be a first half has one of them as its counts. Assumes nothing.
 use mathlib.Core.Path.{◌≡◌, refl, sym, ap, ap₂, ◌∙◌, subst}
-use mathlib.Core.Bool.{true, false}
 use mathlib.Core.Logic.{◌⊎◌, inl, inr}
 use mathlib.Core.List.{List, [], ◌∷◌, ◌++◌}
-use Prim.Native.Nat.{ℕ, zero, suc, ◌+◌, ◌*◌, ◌-◌, ◌/◌, ◌≤◌, ◌<◌}
+use Prim.Native.Nat.{ℕ, zero, suc, ◌+◌, ◌-◌, ◌≤◌, ◌<◌}
 use native.Mathlib.Omega.{arith}
-use lib.ListN.{length, get_or, take}
+use lib.ListN.{length, take}
 use lib.Seq.{ext_get_or, get_or-take, length-take-le}
-use Rattle.rules.specs.Bag.{sum}
 use Rattle.rules.specs.Limits.{types_most}
 use Rattle.rules.specs.Box.{Way}
 use Rattle.rules.specs.Job as rules
@@ -17,20 +15,20 @@ use Rattle.rules.proofs.Tally.{length_plus}
 use Rattle.shapes.specs.declared.Job.{Job}
 use Rattle.outline.specs.declared.Least.{Least}
 use Rattle.outline.specs.Stands.{outline_of, least_by}
-use Rattle.arena.specs.Records.{record_at, link_at}
+use Rattle.arena.specs.Records.{link_at}
 use Rattle.weighing.specs.Weights.{weighed}
 use Rattle.weighing.proofs.Laws.{weighed_plus}
 use Rattle.classes.specs.Directory.{end_link, Class}
-use Rattle.parts.specs.Parts.{digit, half_of, Portion, PortionOf, Part, Stuck, Behind, Earlier}
+use Rattle.parts.specs.Parts.{digit, Portion, PortionOf, Part, Stuck, Behind, Earlier}
 use Rattle.parts.proofs.Parts.{Same, earlier_step, earlier_end, earlier_none}
 use Rattle.outlines.specs.declared.Listed.{Listed}
 use Rattle.growing.specs.Growing.{Growing, Came, Comes, pair_of}
 use Rattle.growing.proofs.Laws.{came_self, came_with, came_then, comes_map}
 use Rattle.growing.proofs.Rows.{join_stays}
 use Rattle.outlines.specs.Listing.{JoinIn}
-use Rattle.pairing.specs.Pairs.{outline_at, key_at, AbleAt}
+use Rattle.pairing.specs.Pairs.{key_at, AbleAt}
 use Rattle.pairing.proofs.Laws.{key_length}
-use Rattle.halving.specs.Halves.{whole_with, whole_of, PairsOf, ClassPairs, Halving, PartWeighs, Trying, PartPairs, Sought, PairsBefore}
+use Rattle.halving.specs.Halves.{PairsOf, ClassPairs, Halving, PartWeighs, Trying, PartPairs, Sought, PairsBefore}
 
 -- counts of two together
 digit_plus : (k : ℕ) (a b : List ℕ) → length a ≡ length b → digit (rules.plus a b) k ≡ digit a k + digit b k

@@ -2,6 +2,7 @@
 // Whoever lists outlines class by class calls `grow_class`. It promises every join of such a pair that need be tried. First halves are found by walking
 // the parts of the counts, each looked up by what it weighs, or by walking the classes, where these are few.
 #![tactic(auto)]
+
 ghost use Rattle.std.specs.Prelude.{◌≡◌, length, take};
 ghost use Rattle.rules.specs.Limits.{types_most};
 ghost use Rattle.weighing.specs.Weights.{weighed};

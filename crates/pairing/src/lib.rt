@@ -2,6 +2,7 @@
 // Whoever makes a class of pairs of classes calls this crate. It promises every join of a record that may be a first half with a record of the other class;
 // that no other need be tried is a theorem of the rules, and here it is told by sizes.
 #![tactic(auto)]
+
 ghost use Rattle.std.specs.Prelude.{◌≡◌, true, false};
 ghost use Rattle.rules.specs.Box.{along, across};
 ghost use Rattle.rules.proofs.Classes.{turned};

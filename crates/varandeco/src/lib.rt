@@ -20,7 +20,7 @@ pub extern "C" fn varandeco_plan_numbers(
     plan: &mut [u64],
     answer: &mut [u64],
 ) -> u64
-    ensures { Reply plan_numbers (λ a. PlanNumbers arena.old plan.old (slice_items job.now) (record { answer = a; arena = arena.new; buffer = plan.new })) answer.entry.now answer.exit.now result }
+    ensures { Reply plan_numbers (λ a. PlanNumbers arena.old plan.old (slice_items job.now) (record { answer = a; arena = arena.new; buffer = plan.new })) answer.old answer.new result }
 {
     let v = plan_job(job_of(job), arena, plan);
     reply_plan(v, answer)
@@ -34,7 +34,7 @@ pub extern "C" fn varandeco_plan_text(
     plan: &mut [u64],
     answer: &mut [u64],
 ) -> u64
-    ensures { Reply plan_numbers (λ a. PlanText arena.old plan.old text.now (record { answer = a; arena = arena.new; buffer = plan.new })) answer.entry.now answer.exit.now result }
+    ensures { Reply plan_numbers (λ a. PlanText arena.old plan.old text.now (record { answer = a; arena = arena.new; buffer = plan.new })) answer.old answer.new result }
 {
     let v = plan_text(text, arena, plan);
     reply_plan(v, answer)

@@ -2,6 +2,7 @@
 // `check_list` takes a job of any numbers and a list of flat numbers of any length, which is only read.
 // It promises the refusal table's answer: 2, then 6, 7, 8, 9, 10, each over the whole list before the next, or what the list earns.
 #![tactic(auto)]
+
 ghost use Rattle.rules.specs.Numbers.{entries};
 ghost use Rattle.rules.specs.Checker.{Checked};
 ghost use Rattle.rules.specs.Answers.{CheckNumbers};

@@ -2,6 +2,7 @@
 // The program `check` and the static library call it. It promises the refusal table's answer on every sequence of bytes:
 // 11 for an input that is too long, then 1, 2, 6, 7, 8, 9, 10, or what the list earns.
 #![tactic(auto)]
+
 ghost use Rattle.rules.specs.Answers.{CheckText, CheckInput};
 ghost use Rattle.shapes.specs.Answer.{check_answer};
 

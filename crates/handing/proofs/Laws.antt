@@ -8,7 +8,6 @@ use native.Mathlib.Decide.{dec_le}
 use lib.ListN.{length, take, drop, set, get_or, length-set, drop_of_length-le}
 use lib.Seq.{take-suc-set, get_or-drop, paste, paste-zero, paste-suc, take_all}
 use Rattle.rules.specs.Limits.{types_most}
-use Rattle.rules.specs.Numbers as rules
 use Rattle.rules.specs.Items.{types_from}
 use Rattle.rules.proofs.Bags.{map-append}
 use Rattle.shapes.specs.Handed.{type_of}

@@ -1,6 +1,7 @@
 // Jobs and answers as slices of numbers: the job that a lent slice holds, and an answer handed out into another one, as far as it has room.
 // The static library calls this crate. A slice of any length holds a job, and any slice can be lent for an answer.
 #![tactic(auto)]
+
 ghost use Rattle.std.specs.Prelude.{◌≡◌, ◌+◌, ◌≤◌, min, get_or, length};
 ghost use Rattle.shapes.specs.Answer.{plan_answer, check_answer};
 ghost use Rattle.shapes.specs.Handed.{type_of, items_of};

@@ -18,7 +18,7 @@ use Rattle.shapes.specs.declared.Placement.{Placement}
 use Rattle.parting.specs.Region.{box_at, Listed}
 use Rattle.placing.specs.Place.{no_entry, entry_at, TypeOf}
 use Rattle.placing.proofs.Entries.{length_entries}
-use Rattle.laying.specs.Laid.{Room, BoxPut, Laid, OnSheet, ToLay}
+use Rattle.laying.specs.Laid.{Room, BoxPut, Laid, ToLay}
 
 pub record Laying (j : Job) (flat was s : List ℕ) (i : ℕ) : Type 0 where
   pub within : i ≤ slots_of (length flat)

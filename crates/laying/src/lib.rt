@@ -2,6 +2,7 @@
 // The checker lays out a list that tests 6 and 7 let pass, and asks here which piece is the first to overlap an earlier one (refusal 9).
 // The boxes are those that parting reads, in the order of the list.
 #![tactic(auto)]
+
 ghost use Rattle.std.specs.Prelude.{◌≡◌, ◌+◌, ◌≤◌, length};
 ghost use Rattle.rules.specs.Limits.{pieces_most};
 ghost use Rattle.rules.specs.Box.{overlap};

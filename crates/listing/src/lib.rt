@@ -3,6 +3,7 @@
 // The arena's own classes are the queue: each is followed by those with one piece more, of the last type that it has or of a later one, so that no counts are met twice.
 // A class is made of pairs of classes that add up to its counts: that is the crate `halving`.
 #![tactic(auto)]
+
 ghost use Rattle.std.specs.Prelude.{◌≡◌, ◌<◌, ◌≤◌, suc, length, take};
 ghost use Rattle.rules.specs.Bag.{sum};
 ghost use Rattle.rules.specs.Limits.{types_most};

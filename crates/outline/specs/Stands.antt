@@ -1,5 +1,5 @@
 -- What an outline of the code stands for, and what its joins hand back. Assumes nothing.
-use Rattle.std.specs.Prelude.{◌≡◌, List, [], ◌∷◌, ℕ, suc, ◌+◌, ◌%◌, ◌≤◌, ◌<◌, length, get_or, take}
+use Rattle.std.specs.Prelude.{◌≡◌, List, [], ◌∷◌, ℕ, suc, ◌+◌, ◌%◌, ◌≤◌, ◌<◌, get_or, take}
 use Rattle.rules.specs.Limits.{demand_most}
 use Rattle.rules.specs.Bag.{All}
 use Rattle.rules.specs.Box as box

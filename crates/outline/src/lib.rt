@@ -2,6 +2,7 @@
 // Whoever joins, compares or stores builds calls this crate. The two joins are methods that hand back the joined outline,
 // and lengths and widths are types of their own, so that no join can add a width to a length.
 #![tactic(auto)]
+
 ghost use Rattle.std.specs.Prelude.{◌≡◌, ◌+◌, ◌%◌, ◌<◌, max, min, take};
 ghost use Rattle.rules.specs.Job.{horizontal, vertical};
 ghost use Rattle.rules.proofs.Bridge.{join};

@@ -2,7 +2,6 @@
 // `listing` makes the list, `planning` reads it; both speak of it in the words of specs/Listing.
 #![tactic(auto)]
 
-#![tactic(auto)]
 // The number of outlines, or that there are more than the arena has room for.
 #[derive(Clone, Copy)]
 pub enum Listed {

@@ -7,7 +7,6 @@ use lib.ListN.{length, get_or, length-map, get_or-map}
 use lib.Seq.{get_or-take, length-take-le}
 use Rattle.rules.specs.Limits.{demand_most, pieces_most}
 use Rattle.rules.specs.Bag.{sum, All, nil, cons}
-use Rattle.rules.specs.Job.{types}
 use Rattle.rules.specs.Placed.{counts_of}
 use Rattle.rules.specs.Numbers.{PieceType, Entry, entries, no_type, job_of, lying, placed}
 use Rattle.rules.specs.Planner.{slots_of}

@@ -2,6 +2,7 @@
 // The checker calls the tests one after the other, and each may count on what those before it did not find.
 // Every test names the first place at which it holds, as the rules' `first_place` does. The list is only read.
 #![tactic(auto)]
+
 ghost use Rattle.std.specs.Prelude.{◌≡◌, not, ◌||◌, ◌+◌, ◌<◌, length, eqb, leb, ltb};
 ghost use Rattle.rules.specs.Numbers.{entries, job_of, lying};
 ghost use Rattle.rules.specs.Placed.{worth};

@@ -2,6 +2,7 @@
 // It is thin: each placement goes through `scan_step`, which keeps the flat numbers of a list that is still clean, and the core checks those.
 // It promises the core's answer to the flat numbers of the records. Whoever holds records calls `check_records`; everybody else calls the core.
 #![tactic(auto)]
+
 ghost use Rattle.std.specs.Prelude.{◌≡◌, [], ◌*◌, take};
 ghost use Rattle.rules.specs.Limits.{placement_numbers};
 ghost use Rattle.rules.specs.Answers.{CheckNumbers};

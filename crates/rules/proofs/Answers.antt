@@ -12,7 +12,7 @@ use Rattle.rules.specs.Limits.{types_most, input_most}
 use Rattle.rules.specs.Text.{Script, end, Text, LeavesAt, job_text, section, some_lines, a_line}
 use Rattle.rules.specs.Items.{out_of_range, numbers_from, placements_from, ranges, piece_count, handed_over}
 use Rattle.rules.specs.Numbers.{PieceType, job_of, entries}
-use Rattle.rules.specs.Checker.{CheckAnswer, refused}
+use Rattle.rules.specs.Checker.{CheckAnswer}
 use Rattle.rules.specs.Planner.{PlanAnswer, no_plan, plan_of, room_of, slots_of, Planned, none_fits, too_many, no_slots, done, numbers_for, arena_after}
 use Rattle.rules.specs.Answers.{Ranged, outside, within, Read, no_text, a_text, Given, too_long, a_length, PlanLeft, refused_plan, PlanItems, PlanNumbers, PlanText, PlanInput, CheckItems, CheckNumbers, CheckText, CheckInput}
 use Rattle.rules.proofs.Reading.{reads, leaves_once, text_once}

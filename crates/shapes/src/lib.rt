@@ -1,6 +1,7 @@
 // What crosses the crates: the job, a placement, an outline's two sizes, and the answers; and the limits of the code, once.
 // Every other crate of code uses these types. They hold any numbers: whoever needs a range tests it, or asks for it in a contract.
 #![tactic(auto)]
+
 ghost use Rattle.std.specs.Prelude.{◌≡◌, [], ◌∷◌};
 ghost use Rattle.rules.specs.Limits.{size_most, kerf_most, types_most, profit_most, demand_most, pieces_most, record_bytes, records_most, placement_numbers, digits_most, input_most, program_records};
 ghost use Rattle.rules.specs.Planner.{slots_of};

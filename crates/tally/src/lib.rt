@@ -1,6 +1,7 @@
 // How many pieces of each type an outline has: the first twelve bytes of a record, read and compared where they stand.
 // The arena calls this crate for each of its records. It promises what each answer is of the counts, for a job of so many types.
 #![tactic(auto)]
+
 ghost use Rattle.std.specs.Prelude.{◌≡◌, true, ◌≤◌, ◌<◌, length, take};
 ghost use Rattle.rules.specs.Limits.{record_bytes, types_most};
 ghost use Rattle.rules.specs.Bag.{sum};

@@ -1,4 +1,3 @@
-use Prim.Native.Nat.{◌-◌}
 use Rattle.handing.proofs.Laws.{handing_start, handing_next, handing_end}
 use Rattle.handing.proofs.hand_out.Goals as goal
 

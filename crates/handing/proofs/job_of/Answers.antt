@@ -1,4 +1,3 @@
-use Prim.Native.Nat.{◌-◌}
 use Rattle.handing.proofs.Laws.{types_next, types_end}
 use Rattle.rules.specs.Items.{handed_over}
 use Rattle.handing.proofs.job_of.Goals as goal

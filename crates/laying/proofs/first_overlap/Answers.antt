@@ -1,4 +1,3 @@
-use Prim.Native.Nat.{◌-◌}
 use native.Mathlib.Omega.{arith}
 use Rattle.laying.proofs.Overlaps.{sparse_start, sparse_next, sparse_found, sparse_end}
 use Rattle.laying.proofs.first_overlap.Goals as goal

@@ -1,4 +1,3 @@
-use Prim.Native.Nat.{◌-◌}
 use native.Mathlib.Omega.{arith}
 use Rattle.placing.proofs.Types.{typed_at}
 use Rattle.laying.proofs.Laying.{laying_start, box_room, laying_next, laying_end}

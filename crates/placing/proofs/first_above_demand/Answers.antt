@@ -1,4 +1,3 @@
-use Prim.Native.Nat.{◌-◌}
 use native.Mathlib.Omega.{arith}
 use Rattle.placing.proofs.Types.{typed_at}
 use Rattle.placing.proofs.Seeking.{seek_none}

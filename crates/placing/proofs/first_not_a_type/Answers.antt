@@ -1,5 +1,4 @@
 use mathlib.Core.List.{[]}
-use Prim.Native.Nat.{◌-◌}
 use native.Mathlib.Omega.{arith}
 use Rattle.placing.proofs.Tests.{type_test}
 use Rattle.placing.proofs.Seeking.{seek_next, seek_found, seek_none}

@@ -1,7 +1,5 @@
 use mathlib.Core.List.{[]}
-use Prim.Native.Nat.{◌-◌}
 use native.Mathlib.Omega.{arith}
-use Rattle.rules.specs.Checker.{off_sheet}
 use Rattle.placing.proofs.Types.{typed_at}
 use Rattle.placing.proofs.Seeking.{seek_next, seek_found, seek_none}
 use Rattle.placing.proofs.first_off_sheet.Goals as goal

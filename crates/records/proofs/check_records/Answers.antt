@@ -1,4 +1,4 @@
-use Rattle.std.proofs.Common.{List, ℕ, ◌≡◌, ◌+◌, ◌<◌, ◌≤◌, ◌^◌, length, take, get_or, subst, sym, arith}
+use Rattle.std.proofs.Common.{List, ℕ, ◌+◌, ◌<◌, ◌≤◌, ◌^◌, length, take, get_or, subst, arith}
 use lib.ListN.{length-take}
 use lib.Seq.{take-suc, take_all}
 use native.Mathlib.Numerals.{add-one}

@@ -1,9 +1,7 @@
 -- `test_of` meets its contract: the tests of one placement, each counting on those before it. Assumes nothing.
 use mathlib.Core.Path.{sym, ◌∙◌}
-use mathlib.Core.Bool.{false}
 use mathlib.Core.List.{[]}
 use native.Mathlib.Omega.{arith}
-use Rattle.rules.specs.Checker.{not_a_type}
 use Rattle.placing.proofs.Tests.{type_test, of_type_lem}
 use Rattle.records.specs.Scan.{no_type_lem, off, above, passes}
 use Rattle.records.proofs.test_of.Goals as goal

@@ -1,6 +1,6 @@
 //! The programs "plan" and "batch" beside plain Rust programs that do the same, as processes from start to end. That both print the same is asserted.
 //!
-//! programs FOLDER LAUNCHER..: FOLDER is where the Rust programs are. Every program is run by the launcher, a loader with its library and, where the processor asks for one, an emulator.
+//! programs FOLDER: FOLDER is where the Rust programs are.
 use std::fs::File;
 use std::path::Path;
 use std::process::{Command, Stdio};
@@ -8,16 +8,14 @@ use std::time::Instant;
 
 const TURNS: usize = 21;
 
-struct Program<'a> {
-    launcher: &'a [String],
+struct Program {
     words: Vec<String>,
 }
 
-impl Program<'_> {
+impl Program {
     fn command(&self, input: &Path) -> Command {
-        let words: Vec<_> = self.launcher.iter().chain(&self.words).collect();
-        let mut command = Command::new(words[0]);
-        command.args(&words[1..]).stdin(File::open(input).expect("an input"));
+        let mut command = Command::new(&self.words[0]);
+        command.args(&self.words[1..]).stdin(File::open(input).expect("an input"));
         command
     }
 
@@ -102,14 +100,14 @@ fn writing(programs: &[Program], folder: &Path) {
 }
 
 fn main() {
-    let words: Vec<String> = std::env::args().skip(1).collect();
-    let (folder, launcher) = (Path::new(&words[0]), &words[1..]);
-    let program = |words: &str| Program { launcher, words: words.split(' ').map(String::from).collect() };
+    let folder = std::env::args().nth(1).expect("a folder");
+    let folder = Path::new(&folder);
+    let program = |words: &str| Program { words: words.split(' ').map(String::from).collect() };
     let beside = |words: &str| program(&format!("{}/{words}", folder.display()));
     println!("## The program plan\n\n| job | time | plan, ms | in Rust, ms | ratio | same plan | bar |\n|---|---|---|---|---|---|---|");
-    let plans = [program("target/bin/program_plan"), beside("plan_program")];
+    let plans = [program("crates/program_plan/out/program_plan"), beside("plan_program")];
     plan(&plans, "strip with 2,000 outlines", Path::new("tests/texts/planner-outlines-2000.job"), Some(2.0));
     plan(&plans, "job with 5 outlines: start and end", Path::new("examples/sample.job"), None);
     println!("\n## Writing\n\n| a line of | batch, us | Rust, the same method, us | ratio | Rust's own formatting, us | ratio |\n|---|---|---|---|---|---|");
-    writing(&[program("target/bin/batch"), beside("batch_program"), beside("batch_program formatted")], folder);
+    writing(&[program("crates/batch/out/batch"), beside("batch_program"), beside("batch_program formatted")], folder);
 }

@@ -1,18 +1,20 @@
 /*
- * varandeco.h: the cutting planner and checker as a static library, libvarandeco.a (`rt staticlib varandeco`).
+ * varandeco.h: the cutting planner and checker as a static library, libvarandeco.a (`rt lib` in crates/varandeco).
  *
  * Four functions: plan a job or check a list of placements, each for numbers and for a text. Each is proved to give the answer that the rules
  * give, on every input, and to leave in every lent slice what is said below. They use no heap and no globals, call nothing but memcpy and
  * memset, and may run at the same time on slices of their own. What is proved ends at this header: that its declarations match the library
  * is only run (tests/c-example).
  *
- * STACK. Measured on x86-64: planning takes 7 KB, or 5 KB and 128 bytes for each piece of the plan where that is more; no plan has more than 124 pieces
- * (every part of its pieces is an outline too), so up to 21 KB. Checking a list of 600 placements takes up to 160 KB, and a plan text of 600 up to 220 KB
- * (two calls nested for each piece, the most that there can be). Lists of fewer pieces take less: 21 KB, or 80 KB for a text, and 230 bytes a piece.
+ * STACK. Measured on x86-64, as an older kit built it: planning takes 7 KB, or 5 KB and 128 bytes for each piece of the plan where that is more; no plan has
+ * more than 124 pieces (every part of its pieces is an outline too), so up to 21 KB. Checking a list of 600 placements takes up to 160 KB, and a plan text of
+ * 600 up to 220 KB (two calls nested for each piece, the most that there can be). Lists of fewer pieces take less: 21 KB, or 80 KB for a text, and 230 bytes a
+ * piece.
  *
- * TIME. Planning takes time that grows with the outlines, and most where a sheet is thin or square, the types are few and the demands high. Measured on x86-64, with
- * 65,535 records: 15 ms for a plain job of 36,595 outlines, and up to 0.75 s, fifty times that, on the slowest jobs that a search found; with 2,000 records 0.5 ms and up
- * to 22 ms. A watchdog has to allow for these and for the machine; they are found, and no bound. Checking 600 pieces takes up to some 10 ms.
+ * TIME. Planning takes time that grows with the outlines, and most where a sheet is thin or square, the types are few and the demands high. Measured on x86-64,
+ * as an older kit built it, with 65,535 records: 15 ms for a plain job of 36,595 outlines, and up to 0.75 s, fifty times that, on the slowest jobs that a
+ * search found; with 2,000 records 0.5 ms and up to 22 ms. A watchdog has to allow for these and for the machine; they are found, and no bound. Checking 600
+ * pieces takes up to some 10 ms.
  *
  * SLICES. A slice is a pointer and the number of its elements (not bytes). Its pointer may be NULL where its length is 0. Otherwise it points to that
  * many elements, aligned as their type asks; a slice that is not const overlaps no other slice of the call. A const slice is only read.

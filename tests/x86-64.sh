@@ -1,6 +1,6 @@
 # For scripts that link the static library: it is for x86-64 always, and so is whatever links it. Sourced, from the repository's root.
 #   need_library   builds target/staticlib/libvarandeco.a, if it is not there or older than a source
-#   need_cc        sets CC, and RUN: what a linked program is run by (nothing on x86-64, the kit's emulator elsewhere)
+#   need_cc        sets CC, and RUN: what a linked program is run by (nothing on x86-64, an emulator elsewhere)
 #   need_rustc     the same for RUSTC
 #   skip WHY       ends the script: a failure on x86-64, where everything needed is at hand, else a skip that says so
 skip() {
@@ -39,9 +39,7 @@ need_cc() {
     fi
     CC=x86_64-linux-gnu-gcc
     command -v $CC >/dev/null || install gcc-x86-64-linux-gnu libc6-dev-amd64-cross || skip 'no cross compiler (Debian: gcc-x86-64-linux-gnu libc6-dev-amd64-cross)'
-    kit=$(dirname "$(dirname "$(rt doc)")")
-    RUN=$kit/on/$(uname -m)/toolchain/bin/qemu-x86_64
-    [ -x "$RUN" ] || RUN=$(command -v qemu-x86_64) || skip 'no qemu-x86_64'
+    RUN=$(command -v qemu-x86_64) || skip 'no qemu-x86_64'
 }
 
 need_rustc() {

@@ -1,4 +1,4 @@
-// Links target/staticlib/libvarandeco.a of the repository (`rt staticlib varandeco`), or the one in the folder that VARANDECO_LIB names.
+// Links target/staticlib/libvarandeco.a of the repository (README.md says how it gets there), or the one in the folder that VARANDECO_LIB names.
 fn main() {
     let here = std::env::var("CARGO_MANIFEST_DIR").unwrap();
     let folder = std::env::var("VARANDECO_LIB").unwrap_or(format!("{here}/../../target/staticlib"));

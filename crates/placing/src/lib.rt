@@ -1,6 +1,6 @@
 // Placement lists as flat numbers of any length, for a job in range: the checker's tests 6, 7 and 8, and what the pieces earn.
 // The checker calls the tests one after the other, and each may count on what those before it did not find.
-// Every test names the first place at which it holds, as the rules' `firstPlace` does. The list is only read.
+// Every test names the first place at which it holds, as the rules' `first_place` does. The list is only read.
 #![tactic(auto)]
 
 ghost use Rattle.std.specs.Prelude.{◌≡◌, not, ◌||◌, ◌+◌, ◌<◌, length, eqb, leb, ltb};

@@ -110,7 +110,7 @@ pub fn moved<'a>(r: Reader<'a>, to: usize) -> Reader<'a>
     }
 }
 
-// The count that a text begins with. Its parameters are plain, so that whoever calls it needs no walk by hand.
+// The count that a text begins with: its caller holds a text and needs no reader.
 pub fn first_count(text: &[u8]) -> Numeral
     ensures { result ≡ number_at 10 text.now 0 }
 {

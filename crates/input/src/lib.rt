@@ -1,30 +1,27 @@
 // How a program reads its input: as many bytes as there are, and no more than a lent buffer holds.
-// The programs call `read_full`. It promises that what it counts is within the buffer; a failed read is the answer's error.
+// The programs call `read_full`. It promises that what it counts are the input's first bytes, and that it stops short of a full buffer only
+// where the input ends. A failed read is the answer's error; how much was read before it is not told.
 #![tactic(auto)]
 
-ghost use Rattle.std.specs.Prelude.{◌≤◌, length, IfOk};
+ghost use Rattle.std.specs.Prelude.{◌≤◌, ◌<◌, length, take, IfOk};
+ghost use Rattle.std.specs.Io.KnownBytes.{Consumes, IsAtEnd};
 
 use std::io;
-use std::io::{ErrorKind, Read};
+use std::io::Read;
 
 // Reads until the buffer is full or the input ends, and says how many bytes stand in the buffer.
 pub fn read_full<R: Read>(from: &mut R, into: &mut [u8]) -> io::Result<usize>
-    ensures { IfOk result (λ n. n ≤ length into.new) }
+    ensures within { IfOk result (λ n. n ≤ length into.new) }
+    ensures first { IfOk result (λ n. Consumes (R.remaining from.old) (R.remaining from.new) (take n into.new)) }
+    ensures all { IfOk result (λ n. n < length into.new → IsAtEnd (R.remaining from.new)) }
 {
     let mut filled = 0;
-    for _ in 0..u64::MAX {
-        if filled == into.len() {
+    while filled < into.len() {
+        let n = from.read(&mut into[filled..])?;
+        if n == 0 {
             break;
         }
-        match from.read(&mut into[filled..]) {
-            Ok(0) => break,
-            Ok(n) => filled += n,
-            Err(e) => {
-                if e.kind() != ErrorKind::Interrupted {
-                    return Err(e);
-                }
-            }
-        }
+        filled += n;
     }
     Ok(filled)
 }

@@ -1,6 +1,6 @@
 // How a program reads its input: as many bytes as there are, and no more than a lent buffer holds.
-// The programs call `read_full`. It promises that what it counts are the input's first bytes, and that it stops short of a full buffer only
-// where the input ends. A failed read is the answer's error; how much was read before it is not told.
+// The programs call `read_full`. It promises that what it counts is within the buffer, and of a reader whose bytes are known (standard input's are not)
+// that it counts the first of them and stops short of a full buffer only at their end. A failed read is the answer's error; how much was read before it is not told.
 #![tactic(auto)]
 
 ghost use Rattle.std.specs.Prelude.{◌≤◌, ◌<◌, length, take, IfOk};

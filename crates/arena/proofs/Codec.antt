@@ -130,7 +130,3 @@ loaded s c l w h ec el ew eh = record {
   is = λ i. record { outline = record { length = record { 0 = el.0 i }; width = record { 0 = ew.0 i }; counts = ec i }; how = eh i };
   sized = record { long = el.1; wide = ew.1 };
 }
-
-pub length_behind : (l w : ℕ) (k : Link) → length (behind l w k) ≡ 20
-unfolding behind
-length_behind l w k = refl

@@ -92,21 +92,19 @@ pub count_at : (s : List ℕ) (i t : ℕ) → t < types_most → get_or s (i * r
 unfolding decode
 count_at s i t h = sym (get_or-take types_most (chunk s i) t 0 h ∙ chunk_at s i t (omega arith))
 
--- the counts of a record, read in its part of the arena
-pub counts_in : (s : List ℕ) (i : ℕ) → take types_most (take (i * record_bytes + record_bytes - i * record_bytes) (drop (i * record_bytes) s)) ≡ (record_at s i).outline.counts
-unfolding chunk decode
-counts_in s i = let e : i * record_bytes + record_bytes - i * record_bytes ≡ record_bytes = omega arith in rw e
+-- the counts of a record are the first of its bytes
+pub counts_in : (s : List ℕ) (i : ℕ) → take types_most (chunk s i) ≡ (record_at s i).outline.counts
+unfolding decode
+counts_in s i = refl
 
 -- a record keeps to the bounds where its counts do: every byte keeps to the others
-pub within_bounds : (s : List ℕ) (i types : ℕ) (c r : List ℕ) → length r ≡ bounds_most → ((m : ℕ) → get_or s m 0 ≤ byte_most) → BoundsOf types c r → at_most (take bounds_most (take (i * record_bytes + record_bytes - i * record_bytes) (drop (i * record_bytes) s))) r ≡ at_most (take types (record_at s i).outline.counts) (take types c)
-unfolding chunk decode
+pub within_bounds : (s : List ℕ) (i types : ℕ) (c r : List ℕ) → length r ≡ bounds_most → ((m : ℕ) → get_or s m 0 ≤ byte_most) → BoundsOf types c r → at_most (take bounds_most (chunk s i)) r ≡ at_most (take types (record_at s i).outline.counts) (take types c)
+unfolding decode
 within_bounds s i types c r l b u =
-    let e : i * record_bytes + record_bytes - i * record_bytes ≡ record_bytes = omega arith in
     let d = take bounds_most (chunk s i) in
     let n = length-take bounds_most (chunk s i) in
     let f = u.few in
-    ap (λ k. at_most (take bounds_most (take k (drop (i * record_bytes) s))) r) e
-    ∙ at_most_past types d r (omega arith) (λ k h m. let q : k < bounds_most = omega arith in omega (arith, u.behind k h q, get_or-take bounds_most (chunk s i) k 0 q, chunk_at s i k (omega arith), b (i * record_bytes + k)))
+    at_most_past types d r (omega arith) (λ k h m. let q : k < bounds_most = omega arith in omega (arith, u.behind k h q, get_or-take bounds_most (chunk s i) k 0 q, chunk_at s i k (omega arith), b (i * record_bytes + k)))
     ∙ ap₂ at_most (take-take types bounds_most (chunk s i) (omega arith) ∙ sym (take-take types types_most (chunk s i) f)) u.counts
 
 -- a word of a record is a word of the arena

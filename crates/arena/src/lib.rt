@@ -12,8 +12,8 @@ ghost use Rattle.rules.specs.Planner.{room_of};
 ghost use Rattle.rules.proofs.Outlines.{same_list, at_most};
 ghost use Rattle.rules.proofs.Classes.{one_more};
 ghost use Rattle.tally.specs.Bounds.{byte_most, counts_most, BoundsOf};
-ghost use Rattle.outline.specs.Stands.{two_bytes};
-ghost use Rattle.arena.specs.Bytes.{word, put_word, behind, link_of, how_of, encode, decode};
+ghost use Rattle.outline.specs.Stands.{Sized, two_bytes};
+ghost use Rattle.arena.specs.Bytes.{word, put_word, chunk, behind, link_of, how_of, encode, decode};
 ghost use Rattle.arena.specs.Records.{record_at, size_of, link_at, links_most, Storable, StoredAlone, Loaded, Linkable, Linked};
 
 use outline::{Across, Along, Outline, Way};
@@ -21,13 +21,13 @@ use shapes::{RECORD_BYTES, RECORDS_MOST, TYPES_MOST};
 use tally::BOUNDS;
 
 // A piece of a type, numbered from 1, or a join of two records that stand before.
-#[derive(Clone, Copy)]
+#[derive(Clone, Copy, Debug, PartialEq, Eq)]
 pub enum How {
     Piece(usize),
     Joined(Way, usize, usize),
 }
 
-#[derive(Clone, Copy)]
+#[derive(Clone, Copy, Debug, PartialEq, Eq)]
 pub struct Record {
     pub outline: Outline,
     pub how: How,
@@ -46,136 +46,131 @@ const KIND_AT: usize = 20;
 
 const LINKS_AT: usize = 22;
 
-// `How` in numbers: 0 for a piece, 1 for a join beside, 2 for a join above.
-#[derive(Clone, Copy)]
+// `How` as the bytes of a record hold it: kind 0 for a piece, 1 for a join beside, 2 for a join above; a record has 32 bytes.
+#[derive(Clone, Copy, Debug, PartialEq, Eq)]
 pub struct Link {
     pub kind: u8,
     pub first: usize,
     pub second: usize,
 }
 
-fn link_of(how: How) -> Link
-    ensures { result ≡ link_of how }
-{
-    match how {
-        How::Piece(t) => Link {
-            kind: 0,
-            first: t,
-            second: 0,
-        },
-        How::Joined(way, a, b) => match way {
-            Way::Beside => Link {
+impl From<How> for Link {
+    ghost from_gives = { λ how link. link ≡ link_of how };
+
+    fn from(how: How) -> Link {
+        match how {
+            How::Piece(t) => Link {
+                kind: 0,
+                first: t,
+                second: 0,
+            },
+            How::Joined(Way::Beside, a, b) => Link {
                 kind: 1,
                 first: a,
                 second: b,
             },
-            Way::Above => Link {
+            How::Joined(Way::Above, a, b) => Link {
                 kind: 2,
                 first: a,
                 second: b,
             },
-        },
+        }
     }
 }
 
-fn how_of(link: Link) -> How
-    ensures { result ≡ how_of link }
-{
-    if link.kind == 0 {
-        return How::Piece(link.first);
+impl From<Link> for How {
+    ghost from_gives = { λ link how. how ≡ how_of link };
+
+    fn from(link: Link) -> How {
+        match link.kind {
+            0 => How::Piece(link.first),
+            1 => How::Joined(Way::Beside, link.first, link.second),
+            _ => How::Joined(Way::Above, link.first, link.second),
+        }
     }
-    if link.kind == 1 {
-        return How::Joined(Way::Beside, link.first, link.second);
-    }
-    How::Joined(Way::Above, link.first, link.second)
 }
 
 // Two bytes, the low one first.
-fn get(s: &[u8], at: usize) -> u64
+fn get(s: &[u8], at: usize) -> u16
     requires { at + 1 < length s.now }
-    ensures { (result ≡ word s.now at) × (result < two_bytes) }
+    ensures { result ≡ word s.now at }
 {
-    tally::wide(s[at]) + 256 * tally::wide(s[at + 1])
+    u16::from_le_bytes([s[at], s[at + 1]])
 }
 
-fn put(s: &mut [u8], at: usize, v: u64)
+fn put(s: &mut [u8], at: usize, v: u16)
     requires { at + 1 < length s.old }
     ensures { s.new ≡ put_word s.old at v }
 {
-    s[at] = (v % 256) as u8;
-    s[at + 1] = (v / 256 % 256) as u8;
+    let bytes = v.to_le_bytes();
+    s[at] = bytes[0];
+    s[at + 1] = bytes[1];
 }
 
 // '"Zeros" means every byte lent.'
 pub fn zero(s: &mut [u8])
     ensures { s.new ≡ replicate (length s.old) 0 }
 {
-    let end = s.len();
-    let mut i = 0;
-    while i < end {
-        s[i] = 0;
-        i += 1;
-    }
+    s.fill(0);
 }
 
 // "Its room is its length divided by 32, rounded down, and at most 65,535 records."
 pub fn room(bytes: usize) -> usize
     ensures { result ≡ room_of bytes }
 {
-    let n = bytes / RECORD_BYTES;
-    if n < RECORDS_MOST { n } else { RECORDS_MOST }
+    (bytes / RECORD_BYTES).min(RECORDS_MOST)
+}
+
+// The bytes of record i: the first of them are its counts.
+fn bytes_at(arena: &[u8], i: usize) -> &[u8; RECORD_BYTES]
+    requires { i < room_of (length arena.now) }
+    ensures bytes { result.now ≡ chunk arena.now i }
+    ensures counts { take types_most result.now ≡ (record_at arena.now i).outline.counts }
+{
+    let at = i * RECORD_BYTES;
+    (&arena[at..at + RECORD_BYTES]).try_into().unwrap()
 }
 
 // What stands behind the counts.
-fn write_behind(s: &mut [u8], along: u64, across: u64, link: Link)
-    requires { length s.old ≡ record_bytes - types_most }
+fn write_behind(s: &mut [u8], along: u16, across: u16, link: Link)
+    requires { (length s.old ≡ record_bytes - types_most) × (link.first < two_bytes) × (link.second < two_bytes) }
     ensures { s.new ≡ behind along across link }
 {
     put(s, 0, along);
     put(s, 2, across);
-    put(s, 4, link.first as u64);
-    put(s, 6, link.second as u64);
+    put(s, 4, link.first as u16);
+    put(s, 6, link.second as u16);
     s[8] = link.kind;
     zero(&mut s[9..]);
 }
 
 fn write(s: &mut [u8], r: Record)
-    requires { length s.old ≡ record_bytes }
+    requires { (length s.old ≡ record_bytes) × Sized r.outline × ((link_of r.how).first < two_bytes) × ((link_of r.how).second < two_bytes) }
     ensures { s.new ≡ encode r }
 {
-    let counts = r.outline.counts;
-    let how = r.how;
-    tally::put_counts(&mut s[..TYPES_MOST], counts);
+    s[..TYPES_MOST].copy_from_slice(&r.outline.counts);
     write_behind(
         &mut s[TYPES_MOST..],
-        r.outline.length.0,
-        r.outline.width.0,
-        link_of(how),
+        r.outline.length.0 as u16,
+        r.outline.width.0 as u16,
+        Link::from(r.how),
     );
 }
 
-fn read(s: &[u8]) -> Record
-    requires { length s.now ≡ record_bytes }
+fn read(s: &[u8; RECORD_BYTES]) -> Record
     ensures { Loaded (decode s.now) result }
 {
-    let counts = tally::counts_of(s);
-    let length = get(s, LENGTH_AT);
-    let width = get(s, WIDTH_AT);
-    let first = get(s, FIRST_AT) as usize;
-    let second = get(s, SECOND_AT) as usize;
-    let kind = s[KIND_AT];
-    let how = how_of(Link {
-        kind,
-        first,
-        second,
-    });
     Record {
         outline: Outline {
-            length: Along(length),
-            width: Across(width),
-            counts,
+            length: Along(u64::from(get(s, LENGTH_AT))),
+            width: Across(u64::from(get(s, WIDTH_AT))),
+            counts: tally::counts_of(s),
         },
-        how,
+        how: How::from(Link {
+            kind: s[KIND_AT],
+            first: usize::from(get(s, FIRST_AT)),
+            second: usize::from(get(s, SECOND_AT)),
+        }),
     }
 }
 
@@ -185,8 +180,7 @@ pub fn store(arena: &mut [u8], i: usize, r: Record)
     ensures { StoredAlone i r arena.old arena.new }
 {
     let at = i * RECORD_BYTES;
-    let end = at + RECORD_BYTES;
-    write(&mut arena[at..end], r);
+    write(&mut arena[at..at + RECORD_BYTES], r);
 }
 
 // Reads record i.
@@ -194,9 +188,7 @@ pub fn load(arena: &[u8], i: usize) -> Record
     requires { i < room_of (length arena.now) }
     ensures { Loaded (record_at arena.now i) result }
 {
-    let at = i * RECORD_BYTES;
-    let end = at + RECORD_BYTES;
-    read(&arena[at..end])
+    read(bytes_at(arena, i))
 }
 
 // Reads link k of record i.
@@ -204,7 +196,7 @@ pub fn link_at(arena: &[u8], i: usize, k: usize) -> usize
     requires { (i < room_of (length arena.now)) × (k < links_most) }
     ensures { (result ≡ link_at arena.now i k) × (result < two_bytes) }
 {
-    get(arena, i * RECORD_BYTES + LINKS_AT + 2 * k) as usize
+    usize::from(get(arena, i * RECORD_BYTES + LINKS_AT + 2 * k))
 }
 
 // Writes link k of record i: no record, and no other link, is touched.
@@ -212,25 +204,23 @@ pub fn put_link(arena: &mut [u8], i: usize, k: usize, v: usize)
     requires { Linkable arena.old i k v }
     ensures { Linked i k v arena.old arena.new }
 {
-    put(arena, i * RECORD_BYTES + LINKS_AT + 2 * k, v as u64);
+    put(arena, i * RECORD_BYTES + LINKS_AT + 2 * k, v as u16);
 }
 
-// The size of record i in a way: its length for 0, its width for 1.
+// The size of record i in a way: its length for 0, its width for 1. Ways are numbers here, since link 0 or 1 of a class's slots holds the order of that size.
 pub fn size_at(arena: &[u8], i: usize, way: usize) -> u64
     requires { (i < room_of (length arena.now)) × (way < 2) }
     ensures { (result ≡ size_of way (record_at arena.now i).outline) × (result < two_bytes) }
 {
-    get(arena, i * RECORD_BYTES + LENGTH_AT + 2 * way)
+    u64::from(get(arena, i * RECORD_BYTES + LENGTH_AT + 2 * way))
 }
 
 // Record i has these counts, for a job of so many types.
 pub fn counts_at(arena: &[u8], i: usize, counts: &[u8; TYPES_MOST], types: usize) -> bool
-    requires { (i < room_of (length arena.now)) × (length counts.now ≡ types_most) × (types ≤ types_most) }
+    requires { (i < room_of (length arena.now)) × (types ≤ types_most) }
     ensures { result ≡ same_list (take types counts.now) (take types (record_at arena.now i).outline.counts) }
 {
-    let at = i * RECORD_BYTES;
-    let end = at + RECORD_BYTES;
-    tally::same_counts(&arena[at..end], counts, types)
+    tally::same_counts(bytes_at(arena, i), counts, types)
 }
 
 // The count of type t, counted from 0, in record i.
@@ -246,9 +236,7 @@ pub fn within_at(arena: &[u8], i: usize, bounds: [u8; BOUNDS]) -> bool
     requires { i < room_of (length arena.now) }
     ensures { (types : ℕ) (c : List ℕ) → BoundsOf types c bounds → result ≡ at_most (take types (record_at arena.now i).outline.counts) (take types c) }
 {
-    let at = i * RECORD_BYTES;
-    let end = at + RECORD_BYTES;
-    tally::within(&arena[at..end], bounds)
+    tally::within(bytes_at(arena, i), bounds)
 }
 
 // What is left of these counts when those of record i are taken away, for a job of so many types.
@@ -256,9 +244,7 @@ pub fn rest_at(arena: &[u8], i: usize, counts: [u8; TYPES_MOST], types: usize) -
     requires { (i < room_of (length arena.now)) × (types ≤ types_most) × (at_most (take types (record_at arena.now i).outline.counts) (take types counts) ≡ true) }
     ensures { plus (take types (record_at arena.now i).outline.counts) (take types result) ≡ take types counts }
 {
-    let at = i * RECORD_BYTES;
-    let end = at + RECORD_BYTES;
-    tally::rest(&arena[at..end], counts, types)
+    tally::rest(bytes_at(arena, i), counts, types)
 }
 
 // The number of pieces of record i, for a job of so many types.
@@ -266,9 +252,7 @@ pub fn pieces_at(arena: &[u8], i: usize, types: usize) -> usize
     requires { (i < room_of (length arena.now)) × (types ≤ types_most) }
     ensures { (result ≡ sum (take types (record_at arena.now i).outline.counts)) × (result ≤ counts_most) }
 {
-    let at = i * RECORD_BYTES;
-    let end = at + RECORD_BYTES;
-    tally::pieces(&arena[at..end], types)
+    tally::pieces(bytes_at(arena, i), types)
 }
 
 // The counts of record i with one piece more of type t, counted from 0, for a job of so many types.
@@ -276,9 +260,7 @@ pub fn more_at(arena: &[u8], i: usize, t: usize, types: usize) -> [u8; TYPES_MOS
     requires { (i < room_of (length arena.now)) × (types ≤ types_most) × (t < types) × (get_or (record_at arena.now i).outline.counts t 0 < byte_most) }
     ensures { take types result ≡ one_more t (take types (record_at arena.now i).outline.counts) }
 {
-    let at = i * RECORD_BYTES;
-    let end = at + RECORD_BYTES;
-    let mut r = tally::counts_of(&arena[at..end]);
+    let mut r = tally::counts_of(bytes_at(arena, i));
     r[t] += 1;
     r
 }

@@ -7,19 +7,10 @@
 
 ghost use Rattle.std.specs.Prelude.{◌≡◌, length};
 
-use cases::{Header, JOB_NUMBERS};
-use shapes::{CheckVerdict, PlanVerdict};
+use cases::{Header, JOB_NUMBERS, Kind};
+use shapes::{Drawing, Plan, Refusal};
 use std::io;
 use std::io::Write;
-use writing::Written;
-
-const PLAN_TEXT: u64 = 1;
-
-const CHECK_TEXT: u64 = 2;
-
-const PLAN_NUMBERS: u64 = 3;
-
-const CHECK_NUMBERS: u64 = 4;
 
 const INPUT_SIZE: usize = 2_097_152;
 
@@ -34,16 +25,10 @@ const HEAD: usize = 8;
 const LINE_SIZE: usize = 172_032;
 
 // The arrays come from functions that promise nothing but their length: so no proof meets a list of two million zeros.
-fn room_for_input() -> [u8; INPUT_SIZE]
-    ensures { 2097152 ≡ length result }
+fn room_for_bytes<const N: usize>() -> [u8; N]
+    ensures { length result ≡ N }
 {
-    [0; INPUT_SIZE]
-}
-
-fn room_for_arena() -> [u8; ARENA_SIZE]
-    ensures { 2097280 ≡ length result }
-{
-    [0; ARENA_SIZE]
+    [0; N]
 }
 
 fn room_for_numbers() -> [u64; NUMBERS_SIZE]
@@ -52,97 +37,65 @@ fn room_for_numbers() -> [u64; NUMBERS_SIZE]
     [0; NUMBERS_SIZE]
 }
 
-fn room_for_line() -> [u8; LINE_SIZE]
-    ensures { 172032 ≡ length result }
-{
-    [0; LINE_SIZE]
-}
-
 fn print_line(to: &mut impl Write, numbers: &[u64]) -> io::Result<bool> {
-    let mut out = room_for_line();
-    if let Written::To(end) = writing::line(numbers, &mut out, 0) {
-        to.write_all(&out[..end])?;
-        return Ok(true);
-    }
-    Ok(false)
+    let mut out = room_for_bytes::<LINE_SIZE>();
+    let Ok(end) = writing::line(numbers, &mut out, 0) else {
+        return Ok(false);
+    };
+    to.write_all(&out[..end])?;
+    Ok(true)
 }
 
-fn print_check(to: &mut impl Write, v: CheckVerdict) -> io::Result<bool> {
-    let line = shapes::check_line(v);
-    let numbers = [
-        line.number,
-        line.place,
-        line.drawing.profit,
-        line.drawing.pieces,
-    ];
-    print_line(to, &numbers)
+fn print_check(to: &mut impl Write, answer: Result<Drawing, Refusal>) -> io::Result<bool> {
+    print_line(to, &shapes::check_line(answer).numbers())
 }
 
 // The numbers of the list stand behind those of the job; a job may have no list behind it.
-fn check_numbers(s: &[u8]) -> CheckVerdict {
+fn check_numbers(s: &[u8]) -> Result<Drawing, Refusal> {
     let mut numbers = [0u64; JOB_NUMBERS];
     let mut list = room_for_numbers();
     let from = cases::read_row(s, 0, &mut numbers).next;
     let count = cases::read_row_behind(s, from, &mut list);
-    checking::check_list(cases::job_of(numbers), &list[..count])
+    checking::check_list(handing::job_of(&numbers), &list[..count])
 }
 
-fn plan_numbers(s: &[u8], arena: &mut [u8], buffer: &mut [u64]) -> PlanVerdict {
+fn plan_numbers(s: &[u8], arena: &mut [u8], buffer: &mut [u64]) -> Result<Plan, Refusal> {
     let mut numbers = [0u64; JOB_NUMBERS];
     cases::read_row(s, 0, &mut numbers);
-    planning::plan_job(cases::job_of(numbers), arena, buffer)
+    planning::plan_job(handing::job_of(&numbers), arena, buffer)
 }
 
-fn plan_case(kind: u64, s: &[u8], arena: &mut [u8], buffer: &mut [u64]) -> PlanVerdict {
-    if kind == PLAN_TEXT {
-        return plantext::plan_text(s, arena, buffer);
-    }
-    plan_numbers(s, arena, buffer)
-}
-
-// The answer line stands in the numbers before those of the buffer.
-fn put_head(v: PlanVerdict, holds: u64, line: &mut [u64]) {
-    if line.len() < HEAD {
-        return;
-    }
-    let l = shapes::plan_line(v);
-    line[0] = l.number;
-    line[1] = l.place;
-    line[2] = l.plan.profit;
-    line[3] = l.plan.length;
-    line[4] = l.plan.width;
-    line[5] = l.plan.pieces;
-    line[6] = l.plan.outlines;
-    line[7] = holds;
-}
-
-fn plan(
+// Plans in an arena that holds `fill` and a buffer that holds other numbers. The answer line stands in the numbers before those of the buffer.
+fn plan<P: FnOnce(&mut [u8], &mut [u64]) -> Result<Plan, Refusal>>(
     to: &mut impl Write,
-    kind: u64,
-    s: &[u8],
+    planner: P,
     arena: &mut [u8],
     fill: u8,
     line: &mut [u64],
-) -> io::Result<bool> {
+) -> io::Result<bool>
+    requires { P.IsAlwaysCallable planner }
+{
     if line.len() < HEAD {
         return Ok(false);
     }
-    cases::fill_bytes(arena, fill);
+    arena.fill(fill);
     cases::fill_numbers(&mut line[HEAD..]);
-    let v = plan_case(kind, s, arena, &mut line[HEAD..]);
-    let holds = cases::arena_holds(arena, fill);
-    put_head(v, holds, line);
+    let answer = planner(arena, &mut line[HEAD..]);
+    line[..HEAD - 1].copy_from_slice(&shapes::plan_line(answer).numbers());
+    line[HEAD - 1] = cases::arena_holds(arena, fill);
     print_line(to, line)
 }
 
 // A case that lends an arena and a buffer. False where they do not fit.
-fn plan_lent(
+fn plan_lent<P: FnOnce(&mut [u8], &mut [u64]) -> Result<Plan, Refusal>>(
     to: &mut impl Write,
     h: Header,
-    s: &[u8],
+    planner: P,
     arena: &mut [u8],
     line: &mut [u64],
-) -> io::Result<bool> {
+) -> io::Result<bool>
+    requires { P.IsAlwaysCallable planner }
+{
     if (arena.len() as u64) < h.arena {
         return Ok(false);
     }
@@ -154,17 +107,11 @@ fn plan_lent(
     }
     let bytes = h.arena as usize;
     let numbers = HEAD + h.buffer as usize;
-    plan(
-        to,
-        h.kind,
-        s,
-        &mut arena[..bytes],
-        (h.fill % 256) as u8,
-        &mut line[..numbers],
-    )
+    let fill = (h.fill % 256) as u8;
+    plan(to, planner, &mut arena[..bytes], fill, &mut line[..numbers])
 }
 
-// Answers a case. False where its kind is unknown, or it does not fit.
+// Answers a case. False where it does not fit.
 fn answer(
     to: &mut impl Write,
     h: Header,
@@ -172,46 +119,44 @@ fn answer(
     arena: &mut [u8],
     line: &mut [u64],
 ) -> io::Result<bool> {
-    let kind = h.kind;
-    match kind {
-        PLAN_TEXT => plan_lent(to, h, s, arena, line),
-        PLAN_NUMBERS => plan_lent(to, h, s, arena, line),
-        CHECK_TEXT => print_check(to, checktext::check_text(s)),
-        CHECK_NUMBERS => print_check(to, check_numbers(s)),
-        _ => Ok(false),
+    match h.kind {
+        Kind::PlanText => plan_lent(to, h, |a, b| plantext::plan_text(s, a, b), arena, line),
+        Kind::PlanNumbers => plan_lent(to, h, |a, b| plan_numbers(s, a, b), arena, line),
+        Kind::CheckText => print_check(to, checktext::check_text(s)),
+        Kind::CheckNumbers => print_check(to, check_numbers(s)),
     }
 }
 
-// Answers the case whose header stands at a place. The place behind the case, or the same place where there is no answer.
+// Answers the case whose header stands at a place: the place behind the case, or none where it is not understood or does not fit.
 fn answer_at(
     to: &mut impl Write,
     s: &[u8],
     at: usize,
     arena: &mut [u8],
     line: &mut [u64],
-) -> io::Result<usize> {
-    let h = cases::read_header(s, at);
+) -> io::Result<Option<usize>> {
+    let Some(h) = cases::read_header(s, at) else {
+        return Ok(None);
+    };
     let from = h.from;
-    if !h.understood {
-        return Ok(at);
-    }
     if s.len() < from {
-        return Ok(at);
+        return Ok(None);
     }
     if ((s.len() - from) as u64) < h.bytes {
-        return Ok(at);
+        return Ok(None);
     }
     let end = from + h.bytes as usize;
-    if answer(to, h, &s[from..end], arena, line)? {
-        return Ok(end);
-    }
-    Ok(at)
+    let answered = answer(to, h, &s[from..end], arena, line)?;
+    Ok(answered.then_some(end))
 }
 
 fn answer_all(to: &mut impl Write, s: &[u8], arena: &mut [u8], line: &mut [u64]) -> io::Result<()> {
     let mut at = 0;
+    // The cases have lengths of their own, so that no range walks them.
     while at < s.len() {
-        let next = answer_at(to, s, at, arena, line)?;
+        let Some(next) = answer_at(to, s, at, arena, line)? else {
+            return Ok(());
+        };
         if next <= at {
             return Ok(());
         }
@@ -221,8 +166,8 @@ fn answer_all(to: &mut impl Write, s: &[u8], arena: &mut [u8], line: &mut [u64])
 }
 
 fn main(rt: HostRuntime) -> io::Result<()> {
-    let mut input = room_for_input();
-    let mut arena = room_for_arena();
+    let mut input = room_for_bytes::<INPUT_SIZE>();
+    let mut arena = room_for_bytes::<ARENA_SIZE>();
     let mut line = room_for_numbers();
     let n = input::read_full(&mut rt.stdin(), &mut input)?;
     answer_all(&mut rt.stdout(), &input[..n], &mut arena, &mut line)

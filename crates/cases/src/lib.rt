@@ -4,36 +4,20 @@
 
 ghost use Rattle.std.specs.Prelude.{◌≤◌, length};
 
-use shapes::{Job, PieceType, TYPES_MOST};
-
 // L, W, k, n and four numbers for each type.
 pub const JOB_NUMBERS: usize = 52;
 
-const LARGEST: u64 = 18_446_744_073_709_551_615;
-
-const TENTH: u64 = 1_844_674_407_370_955_161;
-
-// The value of a digit, or 10.
-fn digit(b: u8) -> u64 {
-    if b < b'0' {
-        return 10;
+// The value of a digit.
+fn digit(b: u8) -> Option<u64> {
+    if !b.is_ascii_digit() {
+        return None;
     }
-    if b'9' < b {
-        return 10;
-    }
-    (b - b'0') as u64
+    Some(u64::from(b - b'0'))
 }
 
 // The number with one digit more; a number that is too large becomes the largest.
 fn with_digit(n: u64, d: u64) -> u64 {
-    if TENTH < n {
-        return LARGEST;
-    }
-    let ten = n * 10;
-    if LARGEST - d < ten {
-        return LARGEST;
-    }
-    ten + d
+    n.saturating_mul(10).saturating_add(d)
 }
 
 // A number and the place behind its last digit.
@@ -46,16 +30,16 @@ pub struct Number {
 // The number that is spelled from a place on; where no digit stands there, the place behind it is the place itself.
 fn read_number(s: &[u8], at: usize) -> Number {
     let mut value = 0;
-    let mut i = at;
-    while i < s.len() {
-        let d = digit(s[i]);
-        if 9 < d {
-            return Number { value, next: i };
-        }
+    for next in at..s.len() {
+        let Some(d) = digit(s[next]) else {
+            return Number { value, next };
+        };
         value = with_digit(value, d);
-        i += 1;
     }
-    Number { value, next: i }
+    Number {
+        value,
+        next: s.len().max(at),
+    }
 }
 
 // How many numbers were read, and the place behind the last one.
@@ -66,22 +50,25 @@ pub struct Row {
 }
 
 // Reads numbers with one byte between them, until there is no more, or no more room.
-pub fn read_row(s: &[u8], at: usize, out: &mut [u64]) -> Row {
-    let mut i = at;
-    let mut k = 0;
-    while k < out.len() {
-        let n = read_number(s, i);
-        out[k] = n.value;
-        k += 1;
-        i = n.next;
-        if s.len() <= i {
-            return Row { count: k, next: i };
+pub fn read_row(s: &[u8], at: usize, out: &mut [u64]) -> Row
+    ensures { result.count ≤ length out.new }
+{
+    let mut next = at;
+    for k in 0..out.len() {
+        let number = read_number(s, next);
+        out[k] = number.value;
+        next = number.next;
+        if s.len() <= next {
+            return Row { count: k + 1, next };
         }
-        if k < out.len() {
-            i += 1;
+        if k + 1 < out.len() {
+            next += 1;
         }
     }
-    Row { count: k, next: i }
+    Row {
+        count: out.len(),
+        next,
+    }
 }
 
 // The row behind the byte at a place: how many numbers it has.
@@ -91,87 +78,59 @@ pub fn read_row_behind(s: &[u8], place: usize, out: &mut [u64]) -> usize
     if s.len() <= place {
         return 0;
     }
-    let count = read_row(s, place + 1, out).count;
-    if out.len() < count {
-        return 0;
-    }
-    count
-}
-
-pub fn fill_bytes(s: &mut [u8], b: u8) {
-    let mut i = 0;
-    while i < s.len() {
-        s[i] = b;
-        i += 1;
-    }
+    read_row(s, place + 1, out).count
 }
 
 pub fn fill_numbers(s: &mut [u64]) {
-    let mut i = 0;
-    while i < s.len() {
-        s[i] = 1_000_000 + i as u64;
-        i += 1;
+    for (i, number) in s.iter_mut().enumerate() {
+        *number = 1_000_000 + i as u64;
     }
 }
 
 fn all_are(s: &[u8], b: u8) -> bool {
-    let mut i = 0;
-    while i < s.len() {
-        if s[i] != b {
-            return false;
-        }
-        i += 1;
-    }
-    true
+    s.iter().all(|&x| x == b)
 }
 
 pub fn arena_holds(arena: &[u8], fill: u8) -> u64 {
     if all_are(arena, 0) {
-        return 0;
+        0
+    } else if all_are(arena, fill) {
+        1
+    } else {
+        2
     }
-    if all_are(arena, fill) {
-        return 1;
-    }
-    2
 }
 
-fn types_of(numbers: [u64; JOB_NUMBERS]) -> [PieceType; TYPES_MOST] {
-    let mut types = [PieceType {
-        length: 0,
-        width: 0,
-        profit: 0,
-        demand: 0,
-    }; TYPES_MOST];
-    let mut t = 0;
-    while t < TYPES_MOST {
-        let at = 4 + 4 * t;
-        types[t] = PieceType {
-            length: numbers[at],
-            width: numbers[at + 1],
-            profit: numbers[at + 2],
-            demand: numbers[at + 3],
-        };
-        t += 1;
-    }
-    types
+// What a case asks for.
+#[derive(Clone, Copy, Debug, PartialEq, Eq)]
+pub enum Kind {
+    PlanText,
+    CheckText,
+    PlanNumbers,
+    CheckNumbers,
 }
 
-pub fn job_of(numbers: [u64; JOB_NUMBERS]) -> Job {
-    let types = types_of(numbers);
-    Job {
-        length: numbers[0],
-        width: numbers[1],
-        kerf: numbers[2],
-        count: numbers[3],
-        types,
+#[derive(Clone, Copy, Debug, PartialEq, Eq)]
+pub struct UnknownKind;
+
+impl TryFrom<u64> for Kind {
+    type Error = UnknownKind;
+
+    fn try_from(number: u64) -> Result<Kind, UnknownKind> {
+        match number {
+            1 => Ok(Kind::PlanText),
+            2 => Ok(Kind::CheckText),
+            3 => Ok(Kind::PlanNumbers),
+            4 => Ok(Kind::CheckNumbers),
+            _ => Err(UnknownKind),
+        }
     }
 }
 
 // A header's numbers and where its case's bytes begin.
-#[derive(Clone, Copy)]
+#[derive(Clone, Copy, Debug, PartialEq, Eq)]
 pub struct Header {
-    pub understood: bool,
-    pub kind: u64,
+    pub kind: Kind,
     pub arena: u64,
     pub fill: u64,
     pub buffer: u64,
@@ -179,22 +138,24 @@ pub struct Header {
     pub from: usize,
 }
 
-pub fn read_header(s: &[u8], at: usize) -> Header {
+// The header at a place, if it is one: five numbers, and LF behind them.
+pub fn read_header(s: &[u8], at: usize) -> Option<Header> {
     let mut numbers = [0u64; 5];
-    let read = read_row(s, at, &mut numbers);
-    let mut understood = false;
-    let mut from = read.next;
-    if from < s.len() {
-        understood = s[from] == b'\n';
-        from += 1;
+    let end = read_row(s, at, &mut numbers).next;
+    if s.len() <= end {
+        return None;
     }
-    Header {
-        understood,
-        kind: numbers[0],
-        arena: numbers[1],
-        fill: numbers[2],
-        buffer: numbers[3],
-        bytes: numbers[4],
-        from,
+    if s[end] != b'\n' {
+        return None;
     }
+    let [number, arena, fill, buffer, bytes] = numbers;
+    let kind = Kind::try_from(number).ok()?;
+    Some(Header {
+        kind,
+        arena,
+        fill,
+        buffer,
+        bytes,
+        from: end + 1,
+    })
 }

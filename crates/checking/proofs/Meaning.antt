@@ -4,6 +4,7 @@ use mathlib.Core.Logic.{◌↔◌}
 use mathlib.Core.Option.{none}
 use mathlib.Core.List.{List}
 use Prim.Native.Nat.{ℕ, ◌≤◌}
+use Rattle.std.specs.Prelude.{Result}
 use native.Mathlib.Omega.{arith}
 use Rattle.rules.specs.Bag.{Same}
 use Rattle.rules.specs.Box.{Disjoint}
@@ -23,21 +24,22 @@ use Rattle.rules.proofs.Promise.{earns}
 use Rattle.shapes.specs.Answer.{check_answer}
 use Rattle.shapes.specs.Handed.{items_of}
 use Rattle.shapes.specs.declared.Job.{Job}
-use Rattle.shapes.specs.declared.CheckVerdict.{CheckVerdict}
+use Rattle.shapes.specs.declared.Refusal.{Refusal}
+use Rattle.shapes.specs.declared.Drawing.{Drawing}
 
 -- the contract: the answer r to the list `flat` for the job j
-abbrev pub Answer : Job → List ℕ → CheckVerdict → Type 0
+abbrev pub Answer : Job → List ℕ → Result Drawing Refusal → Type 0
 Answer j flat r = CheckNumbers flat (items_of j) (check_answer r)
 
 -- number 0
-abbrev pub Taken : CheckVerdict → Type 0
+abbrev pub Taken : Result Drawing Refusal → Type 0
 Taken r = (check_answer r).number ≡ 0
 
 -- the job's numbers, and the pieces of the list
 abbrev pub numbers : Job → Numbers
 numbers j = numbers_from (items_of j)
 
-module _ (j : Job) (flat : List ℕ) (r : CheckVerdict) (answer : Answer j flat r) where
+module _ (j : Job) (flat : List ℕ) (r : Result Drawing Refusal) (answer : Answer j flat r) where
   in_range : {vs : List ℕ} {a : CheckAnswer} → CheckNumbers flat vs a → a.number ≡ 0 → (out_of_range vs ≡ none) × Checked (numbers_from vs) (entries flat) a
   in_range (outside e) z = absurd (omega (arith, z))
   in_range (within e c) z = (e, c)
@@ -65,11 +67,11 @@ module _ (j : Job) (flat : List ℕ) (r : CheckVerdict) (answer : Answer j flat 
     none_overlap = parted_apart (accepted_exactly.0 taken).1.parted
 
 -- the order of a list does not change whether it is accepted
-pub order_free : (j : Job) (flat other : List ℕ) (r q : CheckVerdict) → Answer j flat r → Answer j other q → Same (entries other) (entries flat) → Taken r → Taken q
+pub order_free : (j : Job) (flat other : List ℕ) (r q : Result Drawing Refusal) → Answer j flat r → Answer j other q → Same (entries other) (entries flat) → Taken r → Taken q
 order_free j flat other r q a b s t =
     let p = (accepted_exactly j flat r a).0 t in
     (accepted_exactly j other q b).1 (p.0, accepted_same (lying (numbers j) (entries other)) (same_map (placed (numbers j)) (entries other) (entries flat) s) p.1)
 
 -- and there is one answer only
-pub one_answer : (j : Job) (flat : List ℕ) (r q : CheckVerdict) → Answer j flat r → Answer j flat q → check_answer r ≡ check_answer q
+pub one_answer : (j : Job) (flat : List ℕ) (r q : Result Drawing Refusal) → Answer j flat r → Answer j flat q → check_answer r ≡ check_answer q
 one_answer j flat r q a b = check_numbers_once flat a b

@@ -1,5 +1,5 @@
 -- From what was read of a plan text to the checker's answer to it. Assumes nothing.
-use mathlib.Core.Path.{◌≡◌, refl, sym, ap, ap₂, ◌∙◌, subst}
+use mathlib.Core.Path.{◌≡◌, refl, sym, ap, ◌∙◌, subst}
 use mathlib.Core.Logic.{◌≢◌}
 use mathlib.Core.Option.{Option, none, some}
 use mathlib.Core.List.{List, ◌∷◌, ◌++◌}
@@ -13,14 +13,12 @@ use Rattle.rules.specs.Numbers.{entries}
 use Rattle.rules.specs.Checker.{CheckAnswer, refused, Checked}
 use Rattle.rules.specs.Answers.{outside, within, no_text, a_text, CheckNumbers, CheckText}
 use Rattle.rules.proofs.Ranges.{kept as in-ranges, this, those}
-use Rattle.shapes.specs.Answer.{number_of, place_of}
+use Rattle.std.specs.Prelude.{Err}
+use Rattle.shapes.specs.Answer.{check_answer}
 use Rattle.shapes.specs.Handed.{items_of}
 use Rattle.shapes.specs.declared.Refusal.{Refusal}
 use Rattle.shapes.specs.declared.Job.{Job}
 use Rattle.reading.specs.Placements.{numbers_of_placements}
-use Rattle.texts.specs.declared.Told.TheVariants.{Refused}
-use Rattle.texts.specs.declared.PlanText.{PlanText}
-use Rattle.texts.specs.Told.{told_number, told_place}
 use Rattle.texts.specs.Plan.{PlanTextLeft, plan_left, kept, short, PlanRead}
 use Rattle.texts.proofs.Refusals.{some_number}
 use Rattle.texts.proofs.Judged.{out_early, count_out}
@@ -55,8 +53,8 @@ refuses l (a_text x (outside e)) h = a_text x (outside e)
 refuses l (a_text x (within e (kept i s d r z q))) h = absurd (h refl)
 refuses l (a_text x (within e (short job n flat i s g k))) h = absurd (omega (arith, l, k, few job s n flat (subst (λ vs. out_of_range vs ≡ none) i e)))
 
-pub refuses_told : {was t now : List ℕ} {p : PlanText} → length was ≡ numbers_of_placements pieces_most → PlanRead was t (plan_left p now) → {r : Refusal} → p.told ≡ Refused r → CheckText t (refused (number_of r) (place_of r))
-refuses_told {t = t} l x {r} e = subst (CheckText t) (ap₂ refused (ap told_number e) (ap told_place e)) (refuses l x (λ z. some_number r (sym (ap told_number e) ∙ z)))
+pub refuses_told : {was t now : List ℕ} → length was ≡ numbers_of_placements pieces_most → (r : Refusal) → PlanRead was t (plan_left (Err r) now) → CheckText t (check_answer (Err r))
+refuses_told l r x = refuses l x (some_number r)
 
 -- the placements fit the buffer
 pub record Fits (was : List ℕ) (a : PlanTextLeft) : Type 0 where

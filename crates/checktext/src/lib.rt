@@ -7,31 +7,24 @@ ghost use Rattle.rules.specs.Answers.{CheckText, CheckInput};
 ghost use Rattle.shapes.specs.Answer.{check_answer};
 
 use checking::check_list;
-use shapes::{CheckVerdict, INPUT_MOST, PLACEMENT_NUMBERS, PLAN_NUMBERS, Refusal};
-use texts::{Told, read_plan};
+use shapes::{Drawing, INPUT_MOST, PLACEMENT_NUMBERS, PLAN_NUMBERS, Refusal};
+use texts::read_plan;
 
-pub fn check_text(text: &[u8]) -> CheckVerdict
+pub fn check_text(text: &[u8]) -> Result<Drawing, Refusal>
     ensures { CheckText text.now (check_answer result) }
 {
     let mut numbers = [0u64; PLAN_NUMBERS];
-    let read = read_plan(text, &mut numbers);
-    let told = read.told;
-    match told {
-        Told::Refused(refusal) => CheckVerdict::Rejected(refusal),
-        Told::Fine => {
-            let job = read.job;
-            let end = PLACEMENT_NUMBERS * read.placements;
-            check_list(job, &numbers[..end])
-        }
-    }
+    let read = read_plan(text, &mut numbers)?;
+    let end = PLACEMENT_NUMBERS * read.placements;
+    check_list(read.job, &numbers[..end])
 }
 
 // A program's input may be too long.
-pub fn check_input(input: &[u8]) -> CheckVerdict
+pub fn check_input(input: &[u8]) -> Result<Drawing, Refusal>
     ensures { CheckInput input.now (check_answer result) }
 {
     if INPUT_MOST < input.len() {
-        return CheckVerdict::Rejected(Refusal::InputTooLong);
+        return Err(Refusal::InputTooLong);
     }
     check_text(input)
 }

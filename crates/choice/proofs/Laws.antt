@@ -1,16 +1,18 @@
 -- Sums over the types, place by place, and the order of outlines, test by test. Assumes nothing.
-use mathlib.Core.Path.{◌≡◌, sym, ap, ◌∙◌, subst}
-use mathlib.Core.Bool.{Bool, true, true≢false}
-use mathlib.Core.Logic.{inl, inr, ◌≢◌}
+use mathlib.Core.Path.{◌≡◌, refl, sym, ap, ◌∙◌, subst}
+use mathlib.Core.Bool.{Bool, true≢false}
+use mathlib.Core.Logic.{inl, inr}
 use mathlib.Core.List.{List, [], ◌∷◌}
-use Prim.Native.Nat.{ℕ, zero, suc, ◌+◌, ◌*◌, ◌≤◌, ◌<◌}
+use Prim.Native.Nat.{ℕ, zero, suc, ◌+◌, ◌*◌, ◌<◌}
 use native.Mathlib.Omega.{arith}
 use native.Mathlib.Numerals.{add-one}
-use lib.Dec.{ltb}
 use lib.ListN.{length, get_or, take}
 use borrow.Author.Count.{below_more}
-use borrow.Author.Tests.{ltb-true, ltb-false}
-use Rattle.rules.specs.Bag.{sum}
+use Rattle.std.proofs.Common.{Ordering, Less, Equal, Greater}
+use Rattle.std.specs.Prelude.{Option, Some}
+use Rattle.std.specs.Cmp.Lexicographic.{slice_partial_cmp}
+use Rattle.std.specs.Ordering.{MatchOrdering, is_le, is_some_and, nat_cmp, partial_ordering_then}
+use Rattle.std.proofs.lemmas.Cmp.{ranked}
 use Rattle.rules.specs.Job.{Outline as Build, dot, profit, tie_order, AtLeastAsGood}
 use Rattle.rules.proofs.Order.{good_refl, good_trans}
 use Rattle.shapes.specs.declared.Job.{Job}
@@ -18,7 +20,7 @@ use Rattle.outline.specs.declared.Outline.{Outline}
 use Rattle.outline.specs.Stands.{job_for, outline_of}
 use Rattle.arena.specs.declared.Record.{Record}
 use Rattle.arena.specs.Records.{record_at, Loaded}
-use Rattle.choice.specs.Best.{InTurn, Better, Top}
+use Rattle.choice.specs.Best.{InTurn, Better}
 
 -- one type more
 dot_at : (c ps : List ℕ) (i : ℕ) → i < length c → i < length ps → dot (take (suc i) c) ps ≡ dot (take i c) ps + get_or c i 0 * get_or ps i 0
@@ -30,33 +32,26 @@ dot_at (c ∷ cs) (p ∷ ps) (suc i) h k = omega (arith, dot_at cs ps i (omega a
 pub dot_more : (c ps : List ℕ) (i : ℕ) → i < length c → i < length ps → dot (take (i + 1) c) ps ≡ dot (take i c) ps + get_or c i 0 * get_or ps i 0
 dot_more c ps i h k = ap (λ n. dot (take n c) ps) (add-one i) ∙ dot_at c ps i h k
 
-sum_at : (c : List ℕ) (i : ℕ) → i < length c → sum (take (suc i) c) ≡ sum (take i c) + get_or c i 0
-sum_at [] i h = absurd (omega arith)
-sum_at (c ∷ cs) zero h = omega arith
-sum_at (c ∷ cs) (suc i) h = omega (arith, sum_at cs i (omega arith))
-
-pub sum_more : (c : List ℕ) (i : ℕ) → i < length c → sum (take (i + 1) c) ≡ sum (take i c) + get_or c i 0
-sum_more c i h = ap (λ n. sum (take n c)) (add-one i) ∙ sum_at c i h
-
--- two lists of numbers: the first place where they differ decides
-turn_differs : (a b : ℕ) (l m : List ℕ) → a ≢ b → InTurn (a ∷ l) (b ∷ m) (ltb a b)
-turn_differs a b l m n = record { yes_if = λ e. inl (ltb-true a b e); no_if = λ e. inl (omega (arith, ltb-false a b e)) }
+-- two lists of numbers in std's order: the first place where they differ decides
+abbrev up_to : Option Ordering → Bool
+up_to o = is_some_and is_le o
 
 turn_same : (a b : ℕ) {l m : List ℕ} {r : Bool} → a ≡ b → InTurn l m r → InTurn (a ∷ l) (b ∷ m) r
 turn_same a b p t = record { yes_if = λ e. inr (p, t.yes_if e); no_if = λ e. inr (sym p, t.no_if e) }
 
-pub differ_at : (n : ℕ) (a b : List ℕ) (i : ℕ) → i < n → i < length a → i < length b → ((k : ℕ) → k < i → get_or a k 0 ≡ get_or b k 0) → get_or a i 0 ≢ get_or b i 0 → InTurn (take n a) (take n b) (ltb (get_or a i 0) (get_or b i 0))
-differ_at zero a b i h la lb s d = absurd (omega arith)
-differ_at (suc n) [] b i h la lb s d = absurd (omega arith)
-differ_at (suc n) (x ∷ a) [] i h la lb s d = absurd (omega arith)
-differ_at (suc n) (x ∷ a) (y ∷ b) zero h la lb s d = turn_differs x y (take n a) (take n b) d
-differ_at (suc n) (x ∷ a) (y ∷ b) (suc i) h la lb s d = turn_same x y (s 0 (omega arith)) (differ_at n a b i (omega arith) (omega arith) (omega arith) (λ k l. s (suc k) (omega arith)) d)
+turn_then : (a b : ℕ) {l m : List ℕ} (o : Option Ordering) → InTurn l m (up_to o) → InTurn (a ∷ l) (b ∷ m) (up_to (partial_ordering_then (Some (nat_cmp a b)) o))
+turn_then a b {l} {m} o t = go (nat_cmp a b) (ranked a b (nat_cmp a b) refl)
+  where
+    go : (r : Ordering) → MatchOrdering r (a < b) (a ≡ b) (b < a) → InTurn (a ∷ l) (b ∷ m) (up_to (partial_ordering_then (Some r) o))
+    go Less h = record { yes_if = λ e. inl h; no_if = λ e. absurd (true≢false e) }
+    go Equal h = turn_same a b h t
+    go Greater h = record { yes_if = λ e. absurd (true≢false (sym e)); no_if = λ e. inl h }
 
-pub agree_all : (n : ℕ) (a b : List ℕ) → n ≤ length a → n ≤ length b → ((k : ℕ) → k < n → get_or a k 0 ≡ get_or b k 0) → InTurn (take n a) (take n b) true
-agree_all zero a b la lb s = record { yes_if = λ e. tt; no_if = λ e. absurd (true≢false e) }
-agree_all (suc n) [] b la lb s = absurd (omega arith)
-agree_all (suc n) (x ∷ a) [] la lb s = absurd (omega arith)
-agree_all (suc n) (x ∷ a) (y ∷ b) la lb s = turn_same x y (s 0 (omega arith)) (agree_all n a b (omega arith) (omega arith) (λ k l. s (suc k) (omega arith)))
+in_turn : (l m : List ℕ) → length l ≡ length m → InTurn l m (up_to (slice_partial_cmp (λ x y. Some (nat_cmp x y)) l m))
+in_turn [] [] h = record { yes_if = λ e. tt; no_if = λ e. absurd (true≢false e) }
+in_turn [] (y ∷ m) h = absurd (omega arith)
+in_turn (x ∷ l) [] h = absurd (omega arith)
+in_turn (x ∷ l) (y ∷ m) h = turn_then x y _ (in_turn l m (omega arith))
 
 -- two outlines: profit first, then length, width and counts
 module _ (job : Job) (a b : Outline) where
@@ -66,21 +61,26 @@ module _ (job : Job) (a b : Outline) where
   abbrev other : Build
   other = outline_of job.count b
 
-  pub by_profit : (p q : ℕ) → p ≡ profit (job_for job) one → q ≡ profit (job_for job) other → p ≢ q → Better job a b (ltb q p)
-  by_profit p q ep eq d = record { yes_if = λ e. inl (omega (arith, ltb-true q p e)); no_if = λ e. inl (omega (arith, ltb-false q p e)) }
-
   by_turn : {r : Bool} → profit (job_for job) one ≡ profit (job_for job) other → InTurn (tie_order one) (tie_order other) r → Better job a b r
   by_turn e t = record { yes_if = λ r. inr (sym e, t.yes_if r); no_if = λ r. inr (e, t.no_if r) }
 
-  module _ (same : profit (job_for job) one ≡ profit (job_for job) other) where
-    pub by_length : a.length.0 ≢ b.length.0 → Better job a b (ltb a.length.0 b.length.0)
-    by_length d = by_turn same (turn_differs _ _ _ _ d)
+  abbrev behind : Option Ordering
+  behind = partial_ordering_then (Some (nat_cmp a.width.0 b.width.0)) (slice_partial_cmp (λ x y. Some (nat_cmp x y)) (take job.count a.counts) (take job.count b.counts))
 
-    pub by_width : a.length.0 ≡ b.length.0 → a.width.0 ≢ b.width.0 → Better job a b (ltb a.width.0 b.width.0)
-    by_width e d = by_turn same (turn_same _ _ e (turn_differs _ _ _ _ d))
+  pub better : (p q : ℕ) → p ≡ profit (job_for job) one → q ≡ profit (job_for job) other → length (take job.count a.counts) ≡ length (take job.count b.counts)
+      → Better job a b (up_to (partial_ordering_then (partial_ordering_then (partial_ordering_then (Some (nat_cmp q p)) (Some (nat_cmp a.length.0 b.length.0))) (Some (nat_cmp a.width.0 b.width.0))) (slice_partial_cmp (λ x y. Some (nat_cmp x y)) (take job.count a.counts) (take job.count b.counts))))
+  better p q ep eq h = go (nat_cmp q p) (ranked q p (nat_cmp q p) refl) (nat_cmp a.length.0 b.length.0) ties
+    where
+      ties : InTurn (tie_order one) (tie_order other) (up_to (partial_ordering_then (Some (nat_cmp a.length.0 b.length.0)) behind))
+      ties = turn_then _ _ _ (turn_then _ _ _ (in_turn _ _ h))
 
-    pub by_counts : a.length.0 ≡ b.length.0 → a.width.0 ≡ b.width.0 → {r : Bool} → InTurn (take job.count a.counts) (take job.count b.counts) r → Better job a b r
-    by_counts e f t = by_turn same (turn_same _ _ e (turn_same _ _ f t))
+      go : (r : Ordering) → MatchOrdering r (q < p) (q ≡ p) (p < q) → (s : Ordering) → InTurn (tie_order one) (tie_order other) (up_to (partial_ordering_then (Some s) behind))
+          → Better job a b (up_to (partial_ordering_then (partial_ordering_then (partial_ordering_then (Some r) (Some s)) (Some (nat_cmp a.width.0 b.width.0))) (slice_partial_cmp (λ x y. Some (nat_cmp x y)) (take job.count a.counts) (take job.count b.counts))))
+      go Less k s t = record { yes_if = λ e. inl (omega arith); no_if = λ e. absurd (true≢false e) }
+      go Greater k s t = record { yes_if = λ e. absurd (true≢false (sym e)); no_if = λ e. inl (omega arith) }
+      go Equal k Less t = by_turn (omega arith) t
+      go Equal k Equal t = by_turn (omega arith) t
+      go Equal k Greater t = by_turn (omega arith) t
 
 -- record `at`, whose outline is `top`, is at least as good as each before i
 pub record Leads (job : Job) (s : List ℕ) (top : Outline) (at i : ℕ) : Type 0 where
@@ -120,6 +120,3 @@ module _ (job : Job) (s : List ℕ) where
       over = below_more (λ k. AtLeastAsGood (job_for job) (outline_of job.count top) (seen k)) i g.over
           (subst (λ (x : Record). AtLeastAsGood (job_for job) (outline_of job.count top) (outline_of job.count x.outline)) l.is b);
     }
-
-  pub leads_all : (top : Outline) (at i n : ℕ) → i ≡ n → Leads job s top at i → Top job s n at
-  leads_all top at i n e g = record { low = omega (arith, g.low); top = λ k h. subst (λ (o : Outline). AtLeastAsGood (job_for job) (outline_of job.count o) (seen k)) g.is (g.over k (omega arith)) }

@@ -1,6 +1,5 @@
 -- Two outlines compared, and the best of the arena's records. Assumes nothing.
-use Rattle.std.specs.Prelude.{◌≡◌, Bool, true, false, List, ℕ, ◌*◌, ◌≤◌, ◌<◌, length}
-use Rattle.rules.specs.Limits.{profit_most}
+use Rattle.std.specs.Prelude.{◌≡◌, Bool, true, false, List, ℕ, ◌≤◌, ◌<◌, length}
 use Rattle.rules.specs.Job.{NotAfter, AtLeastAsGood}
 use Rattle.rules.specs.Planner.{room_of}
 use Rattle.shapes.specs.declared.Job.{Job}
@@ -8,11 +7,6 @@ use Rattle.shapes.specs.Handed.{JobInRange}
 use Rattle.outline.specs.declared.Outline.{Outline}
 use Rattle.outline.specs.Stands.{job_for, outline_of}
 use Rattle.arena.specs.Records.{record_at}
-
--- what pieces of a type earn, and that it stays small
-pub record Earned (count each r : ℕ) : Type 0 where
-  pub is : r ≡ count * each
-  pub small : r ≤ 255 * profit_most
 
 -- an answer that says which of two lists of numbers comes first
 pub record InTurn (a b : List ℕ) (r : Bool) : Type 0 where

@@ -49,9 +49,6 @@ module _ (types : ℕ) (s : List ℕ) (n : ℕ) (c : List ℕ) where
     all = λ q k. subst (λ b. Reach (chain_in s) 0 (link_at s b head_link) q) (ap (bucket_of (room_of (length s))) k.1 ∙ sym e) k.0.chained;
   }
 
-  pub seek_room : Directory types s n → (p : ℕ) → Class types s n p → p < room_of (length s)
-  seek_room d p k = omega (arith, d.room, k.some, k.ends)
-
   pub seek_other : (p : ℕ) → same_list c (counts_at types s p) ≡ false → WithCounts types s n c p → ⊥
   seek_other p f k = true≢false (sym (same_list_lem c) ∙ ap (same_list c) (sym k.1) ∙ f)
 

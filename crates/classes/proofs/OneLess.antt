@@ -1,6 +1,5 @@
 -- Counts with one piece less: what they weigh, and as far as they have been looked for. Assumes nothing.
 use mathlib.Core.Path.{◌≡◌, sym, ap, ◌∙◌, subst}
-use mathlib.Core.Bool.{true, false, true≢false}
 use mathlib.Core.List.{List}
 use Prim.Native.Nat.{ℕ, ◌+◌, ◌-◌, ◌≤◌, ◌<◌}
 use native.Mathlib.Omega.{arith}
@@ -9,7 +8,7 @@ use lib.ListN.{length, get_or, set, take}
 use lib.Seq.{get_or-take, length-take-le, take-set-lt}
 use Rattle.weighing.specs.Weights.{weight_of, weighed}
 use Rattle.weighing.proofs.Laws.{weighed_less}
-use Rattle.classes.specs.Directory.{counts_at, less_of, LacksLess}
+use Rattle.classes.specs.Directory.{counts_at, less_of}
 
 module _ {types : ℕ} (counts : List ℕ) {t : ℕ} (among : t < types) where
   same_count : get_or (take types counts) t 0 ≡ get_or counts t 0
@@ -38,9 +37,3 @@ module _ {types : ℕ} {s : List ℕ} {n : ℕ} {c : List ℕ} {i : ℕ} (h : Fi
       go : (t : ℕ) → t < i + 1 → Dec (t ≡ i) → 0 < get_or c t 0 → (q : ℕ) × (q < n) × (counts_at types s q ≡ less_of c t)
       go t x (yes e) = subst (λ u. 0 < get_or c u 0 → (q : ℕ) × (q < n) × (counts_at types s q ≡ less_of c u)) (sym e) f
       go t x (no e) = h.found t (omega arith)
-
-  pub finding_end : types ≤ i → LacksLess types s n c false
-  finding_end l = record { yes_if = λ e. absurd (true≢false (sym e)); no_if = λ _ t x. h.found t (omega arith) }
-
-pub finding_none : {types : ℕ} {s : List ℕ} {n : ℕ} {c : List ℕ} (t : ℕ) → t < types → 0 < get_or c t 0 → ((q : ℕ) → q < n → counts_at types s q ≡ less_of c t → ⊥) → LacksLess types s n c true
-finding_none t l h f = record { yes_if = λ _. record { type = t; among = l; has = h; none = f }; no_if = λ e. absurd (true≢false e) }

@@ -1,10 +1,8 @@
 -- The classes of the arena, and how one is found by its counts. Assumes nothing.
-use Rattle.std.specs.Prelude.{◌≡◌, Bool, true, false, List, ℕ, ◌-◌, ◌≤◌, ◌<◌, length, get_or, set, take}
+use Rattle.std.specs.Prelude.{◌≡◌, Bool, true, false, Option, Some, None, List, ℕ, ◌-◌, ◌≤◌, ◌<◌, length, get_or, set, take}
 use Rattle.rules.specs.Planner.{room_of}
 use Rattle.arena.specs.Records.{record_at, link_at, links_most}
 use Rattle.weighing.specs.Weights.{bucket_of}
-use Rattle.classes.specs.declared.Found.{Found}
-use Rattle.classes.specs.declared.Found.TheVariants.{At, Nowhere}
 use Rattle.classes.specs.Chains.{Reach, Chain}
 use Rattle.classes.specs.Orders.{InOrderOf}
 
@@ -51,9 +49,9 @@ pub record Turn (types : ℕ) (s : List ℕ) (n p : ℕ) : Type 0 where
   pub begins : p < n → Begins types s p
 
 -- the class with these counts, or that no record has them
-abbrev pub FoundIn : (types : ℕ) (s : List ℕ) (n : ℕ) (c : List ℕ) → Found → Type 0
-FoundIn types s n c (At p) = Class types s n p × (counts_at types s p ≡ c)
-FoundIn types s n c Nowhere = (q : ℕ) → q < n → counts_at types s q ≡ c → ⊥
+abbrev pub FoundIn : (types : ℕ) (s : List ℕ) (n : ℕ) (c : List ℕ) → Option ℕ → Type 0
+FoundIn types s n c (Some p) = Class types s n p × (counts_at types s p ≡ c)
+FoundIn types s n c None = (q : ℕ) → q < n → counts_at types s q ≡ c → ⊥
 
 -- counts with one piece less of type t
 abbrev pub less_of : List ℕ → ℕ → List ℕ

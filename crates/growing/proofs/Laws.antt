@@ -1,4 +1,5 @@
 -- A build comes into a class that grows. Assumes nothing.
+use Rattle.std.specs.Prelude.{Result, Ok, Err}
 use mathlib.Core.Path.{◌≡◌, refl, sym, ap, ap₂, ◌∙◌, subst}
 use mathlib.Core.Bool.{Bool, true, false}
 use mathlib.Core.List.Memᴰ
@@ -16,22 +17,20 @@ use Rattle.rules.proofs.Outlines.{fits, same_outline, same_eq, eq_same}
 use Rattle.shapes.specs.declared.Job.{Job}
 use Rattle.outline.specs.declared.Outline.{Outline}
 use Rattle.outline.specs.declared.Way as code
-use Rattle.outline.specs.Stands.{job_for, outline_of, way_of, Joins}
+use Rattle.outline.specs.Stands.{job_for, outline_of, way_of, number_of, side_of, Joins}
 use Rattle.arena.specs.declared.Record.{Record}
 use Rattle.arena.specs.declared.How.TheVariants.{Joined}
 use Rattle.outline.specs.declared.Way.TheVariants.{Beside, Above}
 use Rattle.arena.specs.Records.{record_at, size_of, Loaded}
 use Rattle.classes.specs.Directory.{counts_at, Directory}
-use Rattle.seeking.specs.Opened.{Findable, SizedAs, Seekable, Appendable, Appended}
+use Rattle.seeking.specs.Opened.{Findable, SizedAs, Appendable, Appended}
 use Rattle.classes.proofs.Laws.{directory_kept, kept_self, kept_then}
 use Rattle.seeking.proofs.Opened.{appended_stored, none_findable}
-use Rattle.outlines.specs.declared.Listed.{Listed}
-use Rattle.outlines.specs.declared.Listed.TheVariants.{Complete, Full}
+use Rattle.outlines.specs.declared.ArenaFull.{ArenaFull}
 use Rattle.outlines.specs.Listing.{outlines_in, no_outline, Held, Holds, OutlineIn, JoinIn}
 use Rattle.outlines.proofs.Laws.{length_outlines, outline_at_lem, found_at, not_found, build_sized, grown_self, grown_le, grown_then, too_many_then, storable, added, is_join, join_addable, join_in, join_not}
 use Rattle.outlines.proofs.Lists.{mem_at}
 use Rattle.growing.specs.Growing.{Absent, Growing, Came, Comes, class_of, Growable, pair_of, Pairable, Pairing, bare_join, JoinSized}
-use Rattle.growing.specs.Rows.{number_of, side_of}
 
 not_true : (b : Bool) → (b ≡ true → ⊥) → b ≡ false
 not_true true h = absurd (h refl)
@@ -43,9 +42,6 @@ absent_before {types} {s} {o = o} a k h = not_true _ (λ e. a.before k h (sym (a
 
 -- looking for an outline by its sizes
 module _ {types : ℕ} {s : List ℕ} {start n : ℕ} {o : Outline} (a : Absent types s start n o) where
-  pub seekable : Seekable s start n o.length.0 o.width.0
-  seekable = record { begins = a.begins; room = a.room; long_small = omega (arith, a.sized.long); wide_small = omega (arith, a.sized.wide); table = a.table }
-
   pub sized_holds : (q : ℕ) → SizedAs s start n o.length.0 o.width.0 q → Holds types s n (outline_of types o)
   sized_holds q w =
       let e : outline_of types (record_at s q).outline ≡ outline_of types o = λ i. record { long = w.same_long i; wide = w.same_wide i; counts = a.counts q w.low w.high i } in
@@ -82,12 +78,12 @@ module _ (job : Job) {start : ℕ} {c : List ℕ} where
   pub came_then : {P Q R : List rules.Outline → Type 0} {s t u : List ℕ} {n m k : ℕ} → ((l b : List rules.Outline) → length l ≡ m → P l → Q (l ++ b) → R (l ++ b)) → Came job start c P s n t m → Came job start c Q t m u k → Came job start c R s n u k
   came_then f g h = record { grown = grown_then job f g.grown h.grown; kept = kept_then (grown_le job g.grown) g.kept h.kept; growing = h.growing }
 
-  pub comes_then : {P : List rules.Outline → Type 0} (Q R : List rules.Outline → Type 0) {s t : List ℕ} (u : List ℕ) {n m : ℕ} → ((l b : List rules.Outline) → length l ≡ m → P l → Q (l ++ b) → R (l ++ b)) → Came job start c P s n t m → (r : Listed) → Comes job start c Q t m u r → Comes job start c R s n u r
-  comes_then Q R u f g (Complete k) h = came_then f g h
-  comes_then Q R {s = s} {t = t} u f g Full h = too_many_then job s t g.kept.same_length h
+  pub comes_then : {P : List rules.Outline → Type 0} (Q R : List rules.Outline → Type 0) {s t : List ℕ} (u : List ℕ) {n m : ℕ} → ((l b : List rules.Outline) → length l ≡ m → P l → Q (l ++ b) → R (l ++ b)) → Came job start c P s n t m → (r : Result ℕ ArenaFull) → Comes job start c Q t m u r → Comes job start c R s n u r
+  comes_then Q R u f g (Ok k) h = came_then f g h
+  comes_then Q R {s = s} {t = t} u f g (Err full) h = too_many_then job s t g.kept.same_length h
 
   -- the same step, said of another fact
-  pub comes_map : (Q R : List rules.Outline → Type 0) {s : List ℕ} (u : List ℕ) {n : ℕ} → ((l b : List rules.Outline) → l ≡ outlines_in job s n → Q (l ++ b) → R (l ++ b)) → Held job s n → Growing job.count s start n c → (r : Listed) → Comes job start c Q s n u r → Comes job start c R s n u r
+  pub comes_map : (Q R : List rules.Outline → Type 0) {s : List ℕ} (u : List ℕ) {n : ℕ} → ((l b : List rules.Outline) → l ≡ outlines_in job s n → Q (l ++ b) → R (l ++ b)) → Held job s n → Growing job.count s start n c → (r : Result ℕ ArenaFull) → Comes job start c Q s n u r → Comes job start c R s n u r
   comes_map Q R {s = s} u {n = n} f h g r k = comes_then {P = λ l. l ≡ outlines_in job s n} Q R u (λ l b _ e q. f l b e q) (came_self h g refl) r k
 
 module _ (job : Job) (s : List ℕ) (start n : ℕ) (r : Record) (g : Growable job s start n r) where
@@ -137,14 +133,11 @@ module _ (job : Job) (s : List ℕ) (start n i q : ℕ) (k : Pairable job s star
   pub pair_growable : fits (job_for job) (outline_of job.count o) ≡ true → Growable job s start n joined_record
   pair_growable f = record { growing = subst (Growing job.count s start n) pair_counts k.growing; addable = join_addable job s n i q k.joinable w a b la lb o jo f }
 
-  pub pair_comes : (t : List ℕ) (r : Listed) → Comes job start (class_of job joined_record) (OutlineIn job joined_record) s n t r → Comes job start (pair_of job s i q) (JoinIn job (way_of w) i q) s n t r
+  pub pair_comes : (t : List ℕ) (r : Result ℕ ArenaFull) → Comes job start (class_of job joined_record) (OutlineIn job joined_record) s n t r → Comes job start (pair_of job s i q) (JoinIn job (way_of w) i q) s n t r
   pair_comes t r g = comes_map job (OutlineIn job joined_record) (JoinIn job (way_of w) i q) t (join_in job s n i q k.joinable w a b la lb o jo) k.joinable.ready.held k.growing r (subst (λ c. Comes job start c (OutlineIn job joined_record) s n t r) (sym pair_counts) g)
 
   pub pair_not : fits (job_for job) (outline_of job.count o) ≡ false → Came job start (pair_of job s i q) (JoinIn job (way_of w) i q) s n s n
   pair_not f = came_self job k.joinable.ready.held k.growing (join_not job s n i q k.joinable w a b la lb o jo f)
-
-pub join_sized : (w : box.Way) (s : List ℕ) (i q : ℕ) {start n long wide : ℕ} → long ≡ (bare_join w s i q).long → wide ≡ (bare_join w s i q).wide → ((k : ℕ) × SizedAs s start n long wide k) → JoinSized s start n w i q
-join_sized w s i q a b r = (r.0, record { low = r.1.low; high = r.1.high; same_long = r.1.same_long ∙ a; same_wide = r.1.same_wide ∙ b })
 
 -- a record of the class has the sizes of a join whose counts are the class's: the join is there
 module _ (job : Job) (s : List ℕ) (start n i q : ℕ) (k : Pairable job s start n i q) (w : box.Way) where

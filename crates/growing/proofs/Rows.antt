@@ -14,16 +14,16 @@ use Rattle.rules.proofs.Bridge.{join}
 use Rattle.shapes.specs.declared.Job.{Job}
 use Rattle.outline.specs.declared.Way as code
 use Rattle.outline.specs.declared.Way.TheVariants.{Beside, Above}
-use Rattle.outline.specs.Stands.{job_for, way_of}
+use Rattle.outline.specs.Stands.{job_for, way_of, number_of, side_of}
 use Rattle.arena.specs.Records.{record_at, size_of, link_at}
 use Rattle.classes.specs.Orders.{size_in, named_in}
 use Rattle.classes.specs.Directory.{counts_at, end_link, Class, Directory, Kept}
 use Rattle.classes.proofs.Laws.{counts_stay, class_kept, row_stops, row_whole, first_least}
-use Rattle.outlines.specs.Listing.{outlines_in, no_outline, Held, JoinIn}
+use Rattle.outlines.specs.Listing.{outlines_in, no_outline, JoinIn}
 use Rattle.outlines.proofs.Laws.{outline_at_lem}
 use Rattle.growing.specs.Growing.{Growing, Came, pair_of, Pairable}
-use Rattle.growing.specs.Rows.{number_of, side_of, OfClass, RowWith, RowsWith, Rowable, Rowsable, Facing, TooLarge}
-use Rattle.growing.proofs.Laws.{came_self, came_with, came_then, fits_side}
+use Rattle.growing.specs.Rows.{OfClass, RowWith, RowsWith, Rowable, Rowsable, Facing, TooLarge}
+use Rattle.growing.proofs.Laws.{came_with, came_then, fits_side}
 
 -- a way's number, as the code holds it
 pub two_ways : (way : code.Way) {w : ℕ} → w ≡ number_of way → w < 2
@@ -71,14 +71,8 @@ pub record Among (s : List ℕ) (w p end start : ℕ) (t : List ℕ) (k q : ℕ)
   pub before : q < start
   pub room : q < room_of (length t)
 
-gone_none : {job : Job} {start : ℕ} {c : List ℕ} {Q : ℕ → List rules.Outline → Type 0} {w p end : ℕ} {s : List ℕ} {n : ℕ} → Class job.count s start p → w < 2 → end ≡ link_at s p end_link → Held job s n → Growing job.count s start n c → Gone job start c Q w p end s n s n p
-gone_none z two e h g = record { class = z; two = two; ends = e; low = omega arith; high = omega (arith, z.some); came = came_self _ h g (λ j a b. absurd (omega arith)) }
-
 module _ {job : Job} {start : ℕ} {c : List ℕ} {Q : ℕ → List rules.Outline → Type 0} {w p end : ℕ} {s : List ℕ} {n : ℕ} {t : List ℕ} {m k : ℕ} (g : Gone job start c Q w p end s n t m k) where
   -- place k is in the arena
-  pub gone_room : k < end → k < room_of (length t)
-  gone_room h = omega (arith, g.ends, g.class.ends, g.came.growing.directory.room)
-
   pub gone_among : (q : ℕ) → k < end → q ≡ named_in t w k → Among s w p end start t k q
   gone_among q h e =
       let y = g.ends in
@@ -124,9 +118,6 @@ pub record RowGone (job : Job) (start : ℕ) (way : code.Way) (w side end size i
   pub sheet : side ≡ side_of job way
   pub one : size ≡ size_in s w i
   pub gone : Gone job start (pair_of job s i b) (λ q l. JoinIn job (way_of way) i q l) w b end s n t m k
-
-pub row_none : {job : Job} {start : ℕ} (way : code.Way) {w side end size i b : ℕ} {s : List ℕ} {n : ℕ} → Rowable job s start n i b → w ≡ number_of way → side ≡ side_of job way → end ≡ link_at s b end_link → size ≡ size_in s w i → RowGone job start way w side end size i b s n s n b
-row_none way a nu si en sz = record { asked = a; number = nu; sheet = si; one = sz; gone = gone_none a.class (two_ways way nu) en a.ready.held a.growing }
 
 module _ {job : Job} {start : ℕ} {way : code.Way} {w side end size i b : ℕ} {s : List ℕ} {n : ℕ} {t : List ℕ} {m k : ℕ} (g : RowGone job start way w side end size i b s n t m k) where
   pub row_end : end ≤ k → Came job start (pair_of job s i b) (RowWith job (way_of way) s i b) s n t m
@@ -179,9 +170,6 @@ pub record RowsGone (job : Job) (start : ℕ) (way : code.Way) (w side end least
 pub rows_smallest : {job : Job} {start a b : ℕ} {s : List ℕ} {n : ℕ} → Rowsable job s start n a b → (w : ℕ) → w < 2 → named_in s w b < room_of (length s)
 rows_smallest {b = b} z w two = omega (arith, ((z.class.orders w two).within b (omega arith) z.class.some).1, z.class.ends, z.growing.directory.room)
 
-pub rows_none : {job : Job} {start : ℕ} (way : code.Way) {w side end least a b : ℕ} {s : List ℕ} {n : ℕ} → Rowsable job s start n a b → w ≡ number_of way → side ≡ side_of job way → end ≡ link_at s a end_link → least ≡ size_in s w (named_in s w b) → RowsGone job start way w side end least a b s n s n a
-rows_none way z nu si en le = record { asked = z; number = nu; sheet = si; smallest = le; gone = gone_none z.first (two_ways way nu) en z.ready.held z.growing }
-
 module _ {job : Job} {start : ℕ} {way : code.Way} {w side end least a b : ℕ} {s : List ℕ} {n : ℕ} {t : List ℕ} {m k : ℕ} (g : RowsGone job start way w side end least a b s n t m k) where
   pub rows_end : end ≤ k → Came job start (pair_of job s a b) (RowsWith job (way_of way) s a b) s n t m
   rows_end h = gone_end g.gone h
@@ -228,11 +216,6 @@ module _ {job : Job} {start : ℕ} {way : code.Way} {w side end least a b : ℕ}
 
 -- the smallest of two classes are together too large for the sheet: so are all
 module _ {job : Job} {s : List ℕ} {a b : ℕ} (z : Facing job s a b) (way : code.Way) where
-  pub facing_room : (p : ℕ) → Class job.count s z.upto p → (named_in s (number_of way) p < room_of (length s)) × (p < room_of (length s))
-  facing_room p k =
-      let r = (k.orders (number_of way) (two_ways way refl)).within p (omega arith) k.some in
-      (omega (arith, r.1, k.ends, z.room), omega (arith, k.some, k.ends, z.room))
-
   pub too_large : (w i q : ℕ) → w ≡ number_of way → i ≡ named_in s w a → q ≡ named_in s w b → (side x y : ℕ) → side ≡ side_of job way → x ≡ size_in s w i → y ≡ size_in s w q → side < x + y → TooLarge job way s a b
   too_large w i q ew ei eq side x y es ex ey h j lo hi k klo khi =
       let f : (n p : ℕ) → n ≡ named_in s w p → size_in s w n ≡ size_in s (number_of way) (named_in s (number_of way) p) = λ n p e. ap (size_in s w) e ∙ ap (λ v. size_in s v (named_in s v p)) ew in

@@ -1,5 +1,5 @@
 -- What the arena holds while a class grows at its end. Assumes nothing.
-use Rattle.std.specs.Prelude.{◌≡◌, Bool, true, false, List, ℕ, ◌≤◌, ◌<◌, length, take}
+use Rattle.std.specs.Prelude.{◌≡◌, Bool, true, false, List, ℕ, ◌≤◌, ◌<◌, length, take, Result, Ok, Err}
 use Rattle.rules.specs.Limits.{types_most}
 use Rattle.rules.specs.Box.{Way}
 use Rattle.rules.specs.Job as rules
@@ -12,8 +12,7 @@ use Rattle.arena.specs.declared.Record.{Record}
 use Rattle.arena.specs.Records.{record_at}
 use Rattle.classes.specs.Directory.{counts_at, Directory, Kept}
 use Rattle.seeking.specs.Opened.{Findable, SizedAs}
-use Rattle.outlines.specs.declared.Listed.{Listed}
-use Rattle.outlines.specs.declared.Listed.TheVariants.{Complete, Full}
+use Rattle.outlines.specs.declared.ArenaFull.{ArenaFull}
 use Rattle.outlines.specs.Listing.{Addable, Joinable, Grown, TooMany}
 
 -- no record before start has the outline's counts, and all from there on have
@@ -40,9 +39,9 @@ pub record Came (job : Job) (start : ℕ) (c : List ℕ) (P : List rules.Outline
   pub kept : Kept start n s t
   pub growing : Growing job.count t start m c
 
-abbrev pub Comes : (job : Job) (start : ℕ) (c : List ℕ) (P : List rules.Outline → Type 0) (s : List ℕ) (n : ℕ) (t : List ℕ) → Listed → Type 0
-Comes job start c P s n t (Complete m) = Came job start c P s n t m
-Comes job start c P s n t Full = TooMany job s
+abbrev pub Comes : (job : Job) (start : ℕ) (c : List ℕ) (P : List rules.Outline → Type 0) (s : List ℕ) (n : ℕ) (t : List ℕ) → Result ℕ ArenaFull → Type 0
+Comes job start c P s n t (Ok m) = Came job start c P s n t m
+Comes job start c P s n t (Err full) = TooMany job s
 
 -- the counts of a build's record
 abbrev pub class_of : Job → Record → List ℕ

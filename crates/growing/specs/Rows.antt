@@ -5,21 +5,12 @@ use Rattle.rules.specs.Job as rules
 use Rattle.rules.specs.Planner.{room_of}
 use Rattle.shapes.specs.declared.Job.{Job}
 use Rattle.outline.specs.declared.Way as code
-use Rattle.outline.specs.declared.Way.TheVariants.{Beside, Above}
+use Rattle.outline.specs.Stands.{number_of, side_of}
 use Rattle.arena.specs.Records.{link_at}
 use Rattle.classes.specs.Orders.{size_in}
 use Rattle.classes.specs.Directory.{end_link, Class}
 use Rattle.outlines.specs.Listing.{Ready, JoinIn}
 use Rattle.growing.specs.Growing.{Growing, pair_of}
-
--- the number of a way in the arena's links and sizes, and the sheet's side in it
-abbrev pub number_of : code.Way → ℕ
-number_of Beside = 0
-number_of Above = 1
-
-abbrev pub side_of : Job → code.Way → ℕ
-side_of job Beside = job.length
-side_of job Above = job.width
 
 -- P holds of each record of class p
 abbrev pub OfClass : List ℕ → ℕ → (ℕ → Type 0) → Type 0

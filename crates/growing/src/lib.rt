@@ -2,17 +2,16 @@
 // Whoever lists outlines class by class calls this crate. An outline of the class can only stand in the class, so that nothing else is searched.
 #![tactic(auto)]
 
-ghost use Rattle.std.specs.Prelude.{◌≡◌, true, false, max};
+ghost use Rattle.std.specs.Prelude.{◌≡◌, true, false};
 ghost use Rattle.seeking.specs.Opened.{Seekable};
 ghost use Rattle.outline.specs.Stands.{outline_of, way_of};
 ghost use Rattle.outlines.specs.Listing.{Told, Holds, OutlineIn, JoinIn};
 ghost use Rattle.growing.specs.Growing.{Absent, Comes, class_of, Growable, pair_of, Pairable, Pairing, HasSizes, JoinSized};
-ghost use Rattle.growing.specs.Rows.{number_of, side_of, Rowable, RowWith, Rowsable, RowsWith, Facing, TooLarge};
+ghost use Rattle.growing.specs.Rows.{Rowable, RowWith, Rowsable, RowsWith, Facing, TooLarge};
 
 use arena::{How, Record};
-use classes::Found;
 use outline::{Outline, Way};
-use outlines::Listed;
+use outlines::ArenaFull;
 use shapes::Job;
 
 // A record of the class has these sizes.
@@ -20,10 +19,7 @@ fn has_sizes(arena: &[u8], start: usize, n: usize, long: u64, wide: u64) -> bool
     requires { Seekable arena.now start n long wide }
     ensures { HasSizes arena.now start n long wide result }
 {
-    match seeking::find_size(arena, start, n, long, wide) {
-        Found::At(_) => true,
-        Found::Nowhere => false,
-    }
+    seeking::find_size(arena, start, n, long, wide).is_some()
 }
 
 // The outline is one of the first n records', of which none before `start` has its counts, and all from there on have: they are told apart by their sizes.
@@ -35,25 +31,25 @@ fn holds_from(arena: &[u8], start: usize, n: usize, o: Outline, types: usize) ->
 }
 
 // Adds a build to the class from `start` on, unless it is there.
-pub fn add(job: Job, arena: &mut [u8], start: usize, n: usize, build: Record) -> Listed
+pub fn add(
+    job: Job,
+    arena: &mut [u8],
+    start: usize,
+    n: usize,
+    build: Record,
+) -> Result<usize, ArenaFull>
     requires { Growable job arena.old start n build }
     ensures { Comes job start (class_of job build) (OutlineIn job build) arena.old n arena.new result }
 {
     let types = job.count as usize;
     if holds_from(arena, start, n, build.outline, types) {
-        return Listed::Complete(n);
+        return Ok(n);
     }
     if n == arena::room(arena.len()) {
-        return Listed::Full;
+        return Err(ArenaFull);
     }
     seeking::append(arena, start, n, build);
-    Listed::Complete(n + 1)
-}
-
-fn larger(a: u64, b: u64) -> u64
-    ensures { result ≡ max a b }
-{
-    if a < b { b } else { a }
+    Ok(n + 1)
 }
 
 // A record of the class has the sizes of the join of records i and q: most joins are there already, and need not be made to be known.
@@ -66,8 +62,8 @@ fn join_there(arena: &[u8], start: usize, n: usize, i: usize, q: usize, way: Way
     let c = arena::size_at(arena, i, 1);
     let d = arena::size_at(arena, q, 1);
     match way {
-        Way::Beside => has_sizes(arena, start, n, a + b, larger(c, d)),
-        Way::Above => has_sizes(arena, start, n, larger(a, b), c + d),
+        Way::Beside => has_sizes(arena, start, n, a + b, c.max(d)),
+        Way::Above => has_sizes(arena, start, n, a.max(b), c + d),
     }
 }
 
@@ -80,12 +76,12 @@ pub fn add_join(
     i: usize,
     q: usize,
     way: Way,
-) -> Listed
+) -> Result<usize, ArenaFull>
     requires { Pairable job arena.old start n i q }
     ensures { Comes job start (pair_of job arena.old i q) (JoinIn job (way_of way) i q) arena.old n arena.new result }
 {
     if join_there(arena, start, n, i, q, way) {
-        return Listed::Complete(n);
+        return Ok(n);
     }
     let a = arena::load(arena, i);
     let b = arena::load(arena, q);
@@ -102,27 +98,7 @@ pub fn add_join(
             },
         );
     }
-    Listed::Complete(n)
-}
-
-// The number of a way in the arena's links and sizes.
-pub fn number_of(way: Way) -> usize
-    ensures { result ≡ number_of way }
-{
-    match way {
-        Way::Beside => 0,
-        Way::Above => 1,
-    }
-}
-
-// The sheet's side that sizes of a way add up along.
-pub fn side_of(job: Job, way: Way) -> u64
-    ensures { result ≡ side_of job way }
-{
-    match way {
-        Way::Beside => job.length,
-        Way::Above => job.width,
-    }
+    Ok(n)
 }
 
 // Adds the joins that fit of record i with all records of class b, whose counts add up to the class's.
@@ -135,37 +111,28 @@ pub fn add_row(
     i: usize,
     b: usize,
     way: Way,
-) -> Listed
+) -> Result<usize, ArenaFull>
     requires { Rowable job arena.old start first i b }
     ensures { Comes job start (pair_of job arena.old i b) (RowWith job (way_of way) arena.old i b) arena.old first arena.new result }
 {
-    let w = number_of(way);
-    let side = side_of(job, way);
+    let w = way.number();
+    let side = way.side(job);
     let end = classes::end_of(arena, b);
     let size = arena::size_at(arena, i, w);
     let mut n = first;
-    let mut k = b;
-    while k < end {
-        let at = k;
-        k += 1;
-        let q = arena::link_at(arena, at, w);
+    for k in b..end {
+        let q = arena::link_at(arena, k, w);
         if side < size + arena::size_at(arena, q, w) {
-            return Listed::Complete(n);
+            return Ok(n);
         }
-        match add_join(job, arena, start, n, i, q, way) {
-            Listed::Full => {
-                return Listed::Full;
-            }
-            Listed::Complete(m) => {
-                n = m;
-            }
-        }
+        n = add_join(job, arena, start, n, i, q, way)?;
     }
-    Listed::Complete(n)
+    Ok(n)
 }
 
 // Adds the joins that fit of all records of class a with all records of class b, whose counts add up to the class's.
 // The records of a come in order too: once one is too large with the smallest of b, so are all behind it.
+// One walk for this and `add_row` would take its step as a closure whose contract says `Rowable` or `Rowsable` anew of each arena between: longer than both loops.
 pub fn add_rows(
     job: Job,
     arena: &mut [u8],
@@ -174,34 +141,24 @@ pub fn add_rows(
     a: usize,
     b: usize,
     way: Way,
-) -> Listed
+) -> Result<usize, ArenaFull>
     requires { Rowsable job arena.old start first a b }
     ensures { Comes job start (pair_of job arena.old a b) (RowsWith job (way_of way) arena.old a b) arena.old first arena.new result }
 {
-    let w = number_of(way);
-    let side = side_of(job, way);
+    let w = way.number();
+    let side = way.side(job);
     let end = classes::end_of(arena, a);
     let smallest = arena::link_at(arena, b, w);
     let least = arena::size_at(arena, smallest, w);
     let mut n = first;
-    let mut k = a;
-    while k < end {
-        let at = k;
-        k += 1;
-        let i = arena::link_at(arena, at, w);
+    for k in a..end {
+        let i = arena::link_at(arena, k, w);
         if side < least + arena::size_at(arena, i, w) {
-            return Listed::Complete(n);
+            return Ok(n);
         }
-        match add_row(job, arena, start, n, i, b, way) {
-            Listed::Full => {
-                return Listed::Full;
-            }
-            Listed::Complete(m) => {
-                n = m;
-            }
-        }
+        n = add_row(job, arena, start, n, i, b, way)?;
     }
-    Listed::Complete(n)
+    Ok(n)
 }
 
 // The smallest of class a and the smallest of class b fit behind each other in this way.
@@ -209,8 +166,8 @@ pub fn smallest_fit(job: Job, arena: &[u8], a: usize, b: usize, way: Way) -> boo
     requires { Facing job arena.now a b }
     ensures { result ≡ false → TooLarge job way arena.now a b }
 {
-    let w = number_of(way);
+    let w = way.number();
     let x = arena::size_at(arena, arena::link_at(arena, a, w), w);
     let y = arena::size_at(arena, arena::link_at(arena, b, w), w);
-    x + y <= side_of(job, way)
+    x + y <= way.side(job)
 }

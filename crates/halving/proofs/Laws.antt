@@ -1,4 +1,5 @@
 -- A class is made of pairs: class a with the class of the rest, and the walk over the classes before half. Assumes nothing.
+use Rattle.std.specs.Prelude.{Result}
 use mathlib.Core.Path.{◌≡◌, sym, ap, ap₂, ◌∙◌, subst}
 use mathlib.Core.Bool.{true, false, true≢false}
 use mathlib.Core.List.{List, ◌++◌}
@@ -17,11 +18,11 @@ use Rattle.arena.specs.Records.{record_at, link_at}
 use Rattle.classes.specs.Directory.{end_link, Begins, Class}
 use Rattle.classes.proofs.Laws.{class_at, class_kept, next_begins}
 use Rattle.outlines.specs.Listing.{outlines_in}
-use Rattle.outlines.specs.declared.Listed.{Listed}
-use Rattle.growing.specs.Growing.{Growing, Came, Comes, pair_of}
+use Rattle.outlines.specs.declared.ArenaFull.{ArenaFull}
+use Rattle.growing.specs.Growing.{Came, Comes, pair_of}
 use Rattle.growing.proofs.Laws.{came_self, came_then, came_with, comes_map}
 use Rattle.growing.proofs.Rows.{join_stays}
-use Rattle.pairing.specs.Pairs.{key_at, PairReady, PairIn}
+use Rattle.pairing.specs.Pairs.{key_at, PairIn}
 use Rattle.pairing.proofs.Laws.{key_length}
 use Rattle.halving.specs.Halves.{PairsOf, ClassPairs, Halving, Within, Sought, PairsBefore}
 
@@ -46,25 +47,14 @@ module _ {job : Job} {least : Least} {s : List ℕ} {start n a : ℕ} {c : List 
     whole_pair : pair_of job s a b ≡ c
     whole_pair = ap (rules.plus (key_at job s a)) is ∙ p
 
-    pub rest_ready : PairReady job least s start n a b
-    rest_ready = record { least_of = h.least_of; rows = record { ready = h.ready; first = h.class; class = k; growing = subst (Growing job.count s start n) (sym whole_pair) h.growing } }
-
     -- what adds up to the counts with a record of class a is of class b
     second : (i q : ℕ) → a ≤ i → i < link_at s a end_link → q < start → pair_of job s i q ≡ c → (b ≤ q) × (q < link_at s b end_link)
     second i q lo hi x y = k.whole q x (rest_of i q lo hi x y ∙ sym is)
 
-    pub rest_comes : (t : List ℕ) (r : Listed) → Comes job start (pair_of job s a b) (PairIn job least s a b) s n t r → Comes job start c (ClassPairs job least s start c a) s n t r
+    pub rest_comes : (t : List ℕ) (r : Result ℕ ArenaFull) → Comes job start (pair_of job s a b) (PairIn job least s a b) s n t r → Comes job start c (ClassPairs job least s start c a) s n t r
     rest_comes t r g =
         comes_map job (PairIn job least s a b) (ClassPairs job least s start c a) t (λ l d _ f i lo hi w q x y able. let z = second i q lo hi x y in f w i lo hi q z.0 z.1 able) h.ready.held h.growing r
         (subst (λ d. Comes job start d (PairIn job least s a b) s n t r) whole_pair g)
-
--- the counts, said in another way
-module _ {job : Job} {least : Least} {s : List ℕ} {start n a : ℕ} {c : List ℕ} (h : Halving job least s start n a c) where
-  pub halving_of : {d : List ℕ} → c ≡ d → Halving job least s start n a d
-  halving_of e = subst (Halving job least s start n a) e h
-
-  pub halving_comes : {d : List ℕ} → d ≡ c → (t : List ℕ) (r : Listed) → Comes job start d (ClassPairs job least s start d a) s n t r → Comes job start c (ClassPairs job least s start c a) s n t r
-  halving_comes e t r g = subst (λ d. Comes job start d (ClassPairs job least s start d a) s n t r) e g
 
 -- the walk over first halves: those before p have been joined
 pub record Walking (job : Job) (least : Least) (s : List ℕ) (start : ℕ) (c : List ℕ) (t : List ℕ) (n p : ℕ) : Type 0 where
@@ -74,9 +64,6 @@ pub record Walking (job : Job) (least : Least) (s : List ℕ) (start : ℕ) (c :
 module _ {job : Job} {least : Least} {s : List ℕ} {start half : ℕ} {c : List ℕ} (h : Sought job least s start half c) where
   pub walk_start : Walking job least s start c s start 0
   walk_start = record { came = came_self job h.ready.held h.growing (λ i x. absurd (omega arith)); begins = λ x q y. absurd (omega arith) }
-
-  pub walk_end : {t : List ℕ} {n p : ℕ} → Walking job least s start c t n p → half ≤ p → Came job start c (PairsBefore job least s start c half) s start t n
-  walk_end w x = came_with job w.came (λ i y. w.came.grown.has i (omega arith))
 
   module _ {t : List ℕ} {n a : ℕ} (w : Walking job least s start c t n a) (x : a < half) where
     here : a < start

@@ -15,20 +15,18 @@ use Rattle.rules.proofs.Tally.{length_plus}
 use Rattle.shapes.specs.declared.Job.{Job}
 use Rattle.outline.specs.declared.Least.{Least}
 use Rattle.outline.specs.Stands.{outline_of, least_by}
-use Rattle.arena.specs.Records.{link_at}
 use Rattle.weighing.specs.Weights.{weighed}
 use Rattle.weighing.proofs.Laws.{weighed_plus}
-use Rattle.classes.specs.Directory.{end_link, Class}
+use Rattle.classes.specs.Directory.{Class}
 use Rattle.parts.specs.Parts.{digit, Portion, PortionOf, Part, Stuck, Behind, Earlier}
 use Rattle.parts.proofs.Parts.{Same, earlier_step, earlier_end, earlier_none}
-use Rattle.outlines.specs.declared.Listed.{Listed}
-use Rattle.growing.specs.Growing.{Growing, Came, Comes, pair_of}
-use Rattle.growing.proofs.Laws.{came_self, came_with, came_then, comes_map}
+use Rattle.growing.specs.Growing.{Growing, Came, pair_of}
+use Rattle.growing.proofs.Laws.{came_self, came_with, came_then}
 use Rattle.growing.proofs.Rows.{join_stays}
 use Rattle.outlines.specs.Listing.{JoinIn}
 use Rattle.pairing.specs.Pairs.{key_at, AbleAt}
 use Rattle.pairing.proofs.Laws.{key_length}
-use Rattle.halving.specs.Halves.{PairsOf, ClassPairs, Halving, PartWeighs, Trying, PartPairs, Sought, PairsBefore}
+use Rattle.halving.specs.Halves.{PairsOf, Halving, PartWeighs, Trying, PartPairs, Sought, PairsBefore}
 
 -- counts of two together
 digit_plus : (k : ℕ) (a b : List ℕ) → length a ≡ length b → digit (rules.plus a b) k ≡ digit a k + digit b k
@@ -60,23 +58,9 @@ rest_weighs {job} {part} {rest} h few =
 
 -- a part is tried
 module _ {job : Job} {least : Least} {s : List ℕ} {start n half : ℕ} {c : List ℕ} (h : Trying job least s start n half c) (part : List ℕ) where
-  pub part_none : ((q : ℕ) → q < start → key_at job s q ≡ part → ⊥) → Came job start c (PartPairs job least s start half c part) s n s n
-  part_none f = came_self job h.ready.held h.growing (λ i x e. absurd (f i (omega (arith, h.upto)) e))
-
   module _ (a : ℕ) (k : Class job.count s start a) (is : key_at job s a ≡ part) where
-    of_class : (i : ℕ) → i < half → key_at job s i ≡ part → (a ≤ i) × (i < link_at s a end_link)
-    of_class i x e = k.whole i (omega (arith, h.upto)) (e ∙ sym is)
-
-    pub part_late : half ≤ a → Came job start c (PartPairs job least s start half c part) s n s n
-    part_late l = came_self job h.ready.held h.growing (λ i x e. absurd (omega (arith, (of_class i x e).0)))
-
     pub part_halving : {d : List ℕ} → c ≡ d → Halving job least s start n a d
     part_halving e = record { least_of = h.least_of; ready = h.ready; class = k; growing = subst (Growing job.count s start n) e h.growing }
-
-    pub part_comes : {d : List ℕ} → c ≡ d → (t : List ℕ) (r : Listed) → Comes job start d (ClassPairs job least s start d a) s n t r → Comes job start c (PartPairs job least s start half c part) s n t r
-    part_comes e t r g =
-        comes_map job (ClassPairs job least s start c a) (PartPairs job least s start half c part) t (λ l b _ f i x m. let z = of_class i x m in f i z.0 z.1) h.ready.held h.growing r
-        (subst (λ d. Comes job start d (ClassPairs job least s start d a) s n t r) (sym e) g)
 
 -- as far as the odometer has come: what comes before the part has been tried
 pub record InParts (job : Job) (least : Least) (s : List ℕ) (start half : ℕ) (counts : List ℕ) (t : List ℕ) (n : ℕ) (p : Portion) : Type 0 where

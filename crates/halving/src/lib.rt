@@ -9,9 +9,8 @@ ghost use Rattle.weighing.specs.Weights.{weighed};
 ghost use Rattle.growing.specs.Growing.{Comes};
 ghost use Rattle.halving.specs.Halves.{whole_with, whole_of, Halving, Within, ClassPairs, PartWeighs, Trying, PartPairs, Sought, PairsBefore};
 
-use classes::Found;
 use outline::Least;
-use outlines::Listed;
+use outlines::ArenaFull;
 use parts::Step;
 use shapes::{Job, TYPES_MOST};
 
@@ -28,13 +27,13 @@ fn add_rest(
     rest: &[u8; TYPES_MOST],
     weight: u64,
     least: Least,
-) -> Listed
+) -> Result<usize, ArenaFull>
     requires { Halving job least arena.old start n a (whole_with job arena.old a rest.now) × (length rest.now ≡ types_most) × (weight ≡ weighed 0 (take job.count rest.now)) }
     ensures { Comes job start (whole_with job arena.old a rest.now) (ClassPairs job least arena.old start (whole_with job arena.old a rest.now) a) arena.old n arena.new result }
 {
     match classes::find_weighed(arena, start, rest, job.count as usize, weight) {
-        Found::Nowhere => Listed::Complete(n),
-        Found::At(b) => pairing::add_pair(job, arena, start, n, a, b, least),
+        Some(b) => pairing::add_pair(job, arena, start, n, a, b, least),
+        None => Ok(n),
     }
 }
 
@@ -47,7 +46,7 @@ fn add_class(
     a: usize,
     counts: [u8; TYPES_MOST],
     least: Least,
-) -> Listed
+) -> Result<usize, ArenaFull>
     requires { Within job least arena.old start n a (take job.count counts) }
     ensures { Comes job start (take job.count counts) (ClassPairs job least arena.old start (take job.count counts) a) arena.old n arena.new result }
 {
@@ -65,28 +64,22 @@ fn grow_by_classes(
     half: usize,
     counts: [u8; TYPES_MOST],
     least: Least,
-) -> Listed
+) -> Result<usize, ArenaFull>
     requires { Sought job least arena.old start half (take job.count counts) }
     ensures { Comes job start (take job.count counts) (PairsBefore job least arena.old start (take job.count counts) half) arena.old start arena.new result }
 {
     let bounds = tally::bounds_of(counts, job.count as usize);
     let mut n = start;
     let mut p = 0;
+    // from class to class: each ends where the next begins
     while p < half {
         let a = p;
         p = classes::end_of(arena, a);
         if arena::within_at(arena, a, bounds) {
-            match add_class(job, arena, start, n, a, counts, least) {
-                Listed::Full => {
-                    return Listed::Full;
-                }
-                Listed::Complete(m) => {
-                    n = m;
-                }
-            }
+            n = add_class(job, arena, start, n, a, counts, least)?;
         }
     }
-    Listed::Complete(n)
+    Ok(n)
 }
 
 // Joins the class whose counts are this part, if it stands before `half`, with the class of the rest. What the part weighs, and all of the counts, is given.
@@ -101,18 +94,14 @@ fn add_part(
     share: u64,
     weight: u64,
     least: Least,
-) -> Listed
+) -> Result<usize, ArenaFull>
     requires { Trying job least arena.old start n half (whole_of job part.now rest.now) × PartWeighs job part.now rest.now share weight }
     ensures { Comes job start (whole_of job part.now rest.now) (PartPairs job least arena.old start half (whole_of job part.now rest.now) (take job.count part.now)) arena.old n arena.new result }
 {
     match classes::find_weighed(arena, start, part, job.count as usize, share) {
-        Found::Nowhere => Listed::Complete(n),
-        Found::At(a) => {
-            if half <= a {
-                return Listed::Complete(n);
-            }
-            add_rest(job, arena, start, n, a, rest, weight - share, least)
-        }
+        None => Ok(n),
+        Some(a) if half <= a => Ok(n),
+        Some(a) => add_rest(job, arena, start, n, a, rest, weight - share, least),
     }
 }
 
@@ -125,7 +114,7 @@ fn grow_by_parts(
     counts: [u8; TYPES_MOST],
     weight: u64,
     least: Least,
-) -> Listed
+) -> Result<usize, ArenaFull>
     requires { Sought job least arena.old start half (take job.count counts) × (weight ≡ weighed 0 (take job.count counts)) }
     ensures { Comes job start (take job.count counts) (PairsBefore job least arena.old start (take job.count counts) half) arena.old start arena.new result }
 {
@@ -136,10 +125,10 @@ fn grow_by_parts(
     let mut step = Step {
         weight: 0,
         spare: tally::pieces_of(counts, types) / 2,
-        more: true,
     };
+    // until the odometer has no next part; the first is tried before one is asked for
     loop {
-        match add_part(
+        n = add_part(
             job,
             arena,
             start,
@@ -150,17 +139,10 @@ fn grow_by_parts(
             step.weight,
             weight,
             least,
-        ) {
-            Listed::Full => {
-                return Listed::Full;
-            }
-            Listed::Complete(m) => {
-                n = m;
-            }
-        }
-        step = parts::next(&mut part, &mut rest, counts, types, step);
-        if !step.more {
-            return Listed::Complete(n);
+        )?;
+        match parts::next(&mut part, &mut rest, counts, types, step) {
+            Some(next) => step = next,
+            None => return Ok(n),
         }
     }
 }
@@ -175,12 +157,13 @@ pub fn grow_class(
     counts: [u8; TYPES_MOST],
     weight: u64,
     least: Least,
-) -> Listed
+) -> Result<usize, ArenaFull>
     requires { Sought job least arena.old start half (take job.count counts) × (weight ≡ weighed 0 (take job.count counts)) }
     ensures { Comes job start (take job.count counts) (PairsBefore job least arena.old start (take job.count counts) half) arena.old start arena.new result }
 {
     if parts::are_few(counts, job.count as usize, half / DEARER) {
-        return grow_by_parts(job, arena, start, half, counts, weight, least);
+        grow_by_parts(job, arena, start, half, counts, weight, least)
+    } else {
+        grow_by_classes(job, arena, start, half, counts, least)
     }
-    grow_by_classes(job, arena, start, half, counts, least)
 }

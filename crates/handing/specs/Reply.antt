@@ -1,14 +1,5 @@
 -- An answer handed out through a lent slice of numbers. Assumes nothing.
-use Rattle.std.specs.Prelude.{◌≡◌, List, [], ◌∷◌, ◌++◌, ℕ, length, take, drop, get_or}
-use Rattle.rules.specs.Planner.{PlanAnswer}
-use Rattle.rules.specs.Checker.{CheckAnswer}
-
--- the numbers of an answer, as "plan" and "check" print them
-abbrev pub plan_numbers : PlanAnswer → List ℕ
-plan_numbers a = a.number ∷ a.place ∷ a.profit ∷ a.long ∷ a.wide ∷ a.pieces ∷ a.outlines ∷ []
-
-abbrev pub check_numbers : CheckAnswer → List ℕ
-check_numbers a = a.number ∷ a.place ∷ a.profit ∷ a.pieces ∷ []
+use Rattle.std.specs.Prelude.{◌≡◌, List, ◌++◌, ℕ, length, take, drop, get_or}
 
 -- a lent slice takes as many of the numbers as it has room for; what it holds behind them stays
 abbrev pub handed_out : List ℕ → List ℕ → List ℕ

@@ -3,69 +3,41 @@
 #![tactic(auto)]
 
 ghost use Rattle.std.specs.Prelude.{◌≡◌, ◌+◌, ◌≤◌, min, get_or, length};
-ghost use Rattle.shapes.specs.Answer.{plan_answer, check_answer};
+ghost use Rattle.shapes.specs.Answer.{plan_answer, check_answer, plan_numbers, check_numbers};
 ghost use Rattle.shapes.specs.Handed.{type_of, items_of};
-ghost use Rattle.handing.specs.Reply.{plan_numbers, check_numbers, handed_out, Reply};
+ghost use Rattle.handing.specs.Reply.{handed_out, Reply};
 ghost use Rattle.handing.specs.Slice.{type_at, slice_items};
 
-use shapes::{CheckVerdict, Job, PieceType, PlanVerdict, TYPES_MOST};
+use shapes::{Drawing, Job, NO_TYPE, PieceType, Plan, Refusal, TYPES_MOST};
 
 // Where the types of a job begin in a slice of its numbers, and the numbers of each.
 const TYPES_AT: usize = 4;
 
 const TYPE_NUMBERS: usize = 4;
 
-fn least(a: usize, b: usize) -> usize
-    ensures { result ≡ min a b }
-{
-    if a < b {
-        return a;
-    }
-    b
-}
-
 // Hands out as many of the numbers as the answer has room for.
 fn hand_out(numbers: &[u64], answer: &mut [u64])
     ensures { answer.new ≡ handed_out numbers.now answer.old }
 {
-    let end = least(numbers.len(), answer.len());
-    let mut i = 0;
-    while i < end {
-        answer[i] = numbers[i];
-        i += 1;
-    }
+    let end = numbers.len().min(answer.len());
+    answer[..end].copy_from_slice(&numbers[..end]);
 }
 
 // Hands out the numbers that "plan" prints, and answers the first of them.
-pub fn reply_plan(v: PlanVerdict, answer: &mut [u64]) -> u64
+pub fn reply_plan(v: Result<Plan, Refusal>, answer: &mut [u64]) -> u64
     ensures { Reply plan_numbers (λ a. a ≡ plan_answer v) answer.old answer.new result }
 {
     let line = shapes::plan_line(v);
-    let numbers = [
-        line.number,
-        line.place,
-        line.plan.profit,
-        line.plan.length,
-        line.plan.width,
-        line.plan.pieces,
-        line.plan.outlines,
-    ];
-    hand_out(&numbers, answer);
+    hand_out(&line.numbers(), answer);
     line.number
 }
 
 // The same of "check".
-pub fn reply_check(v: CheckVerdict, answer: &mut [u64]) -> u64
+pub fn reply_check(v: Result<Drawing, Refusal>, answer: &mut [u64]) -> u64
     ensures { Reply check_numbers (λ a. a ≡ check_answer v) answer.old answer.new result }
 {
     let line = shapes::check_line(v);
-    let numbers = [
-        line.number,
-        line.place,
-        line.drawing.profit,
-        line.drawing.pieces,
-    ];
-    hand_out(&numbers, answer);
+    hand_out(&line.numbers(), answer);
     line.number
 }
 
@@ -73,10 +45,7 @@ pub fn reply_check(v: CheckVerdict, answer: &mut [u64]) -> u64
 fn number_at(numbers: &[u64], i: usize) -> u64
     ensures { result ≡ get_or numbers.now i 0 }
 {
-    if i < numbers.len() {
-        return numbers[i];
-    }
-    0
+    numbers.get(i).copied().unwrap_or(0)
 }
 
 fn type_at(numbers: &[u64], i: usize) -> PieceType
@@ -95,16 +64,9 @@ fn type_at(numbers: &[u64], i: usize) -> PieceType
 pub fn job_of(numbers: &[u64]) -> Job
     ensures { items_of result ≡ slice_items numbers.now }
 {
-    let mut types = [PieceType {
-        length: 0,
-        width: 0,
-        profit: 0,
-        demand: 0,
-    }; TYPES_MOST];
-    let mut t = 0;
-    while t < TYPES_MOST {
+    let mut types = [NO_TYPE; TYPES_MOST];
+    for t in 0..TYPES_MOST {
         types[t] = type_at(numbers, TYPES_AT + TYPE_NUMBERS * t);
-        t += 1;
     }
     Job {
         length: number_at(numbers, 0),

@@ -16,6 +16,7 @@ pub fn read_full<R: Read>(from: &mut R, into: &mut [u8]) -> io::Result<usize>
     ensures all { IfOk result (λ n. n < length into.new → IsAtEnd (R.remaining from.new)) }
 {
     let mut filled = 0;
+    // a read gives as many bytes as it likes, so that no range walks the buffer
     while filled < into.len() {
         let n = from.read(&mut into[filled..])?;
         if n == 0 {

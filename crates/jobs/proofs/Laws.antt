@@ -17,7 +17,7 @@ use Rattle.rules.proofs.Ranges.{item_in, item_out}
 use Rattle.shapes.specs.Handed.{type_of}
 use Rattle.shapes.specs.declared.PieceType as Declared
 use Rattle.jobs.specs.Item.{item_place, or_next, LineOut, types_out, Passed}
-use Rattle.jobs.specs.declared.Item.{Item}
+use Rattle.std.specs.Prelude
 
 -- the test of one number, as the code asks it
 abbrev pub out : Range → ℕ → Bool
@@ -75,7 +75,7 @@ module _ (i n : ℕ) (rs : List Range) (t : PieceType) (vs : List ℕ) where
 abbrev pub ends : List Range
 ends = from 0 pieces_most ∷ []
 
-pub next_line : (i n : ℕ) (ts : List PieceType) (t : PieceType) (us : List PieceType) (r : Item) → ts ≡ t ∷ us → LineOut i t r → types_out i (suc n) ts ≡ or_next (item_place r) (types_out (i + 4) n us)
+pub next_line : (i n : ℕ) (ts : List PieceType) (t : PieceType) (us : List PieceType) (r : Prelude.Option ℕ) → ts ≡ t ∷ us → LineOut i t r → types_out i (suc n) ts ≡ or_next (item_place r) (types_out (i + 4) n us)
 next_line i n ts t us r e h = ap (types_out i (suc n)) e ∙ h n ends (type_items (take n us))
 
 -- the loop over the lines
@@ -83,7 +83,7 @@ pub passed_start : (count : ℕ) (ts : List PieceType) → Passed count ts 0
 passed_start count ts = record { within = omega arith; left = let e : count - 0 ≡ count = omega arith in rw e }
 
 module _ {count : ℕ} {ts : List PieceType} {i : ℕ} (p : Passed count ts i) where
-  module _ (h : i < count) (t : PieceType) (e : drop i ts ≡ t ∷ drop (i + 1) ts) (r : Item) (o : LineOut (5 + 4 * i) t r) where
+  module _ (h : i < count) (t : PieceType) (e : drop i ts ≡ t ∷ drop (i + 1) ts) (r : Prelude.Option ℕ) (o : LineOut (5 + 4 * i) t r) where
     this_line : types_out 5 count ts ≡ or_next (item_place r) (types_out (5 + 4 * i + 4) (count - (i + 1)) (drop (i + 1) ts))
     this_line =
         let c : count - i ≡ suc (count - (i + 1)) = omega arith in

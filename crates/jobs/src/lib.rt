@@ -11,77 +11,62 @@ ghost use Rattle.jobs.specs.Item.{item_place, types_out, LineOut};
 
 use shapes::{DEMAND_MOST, Job, KERF_MOST, PROFIT_MOST, PieceType, SIZE_MOST, TYPES_MOST};
 
-// The first item out of range, if there is one.
-#[derive(Clone, Copy)]
-pub enum Item {
-    Fine,
-    Out(usize),
-}
-
+// A number outside its range, both ends of which belong to it.
 fn outside(v: u64, low: u64, high: u64) -> bool
     ensures { result ≡ not (leb low v && leb v high) }
 {
-    if v < low {
-        return true;
-    }
-    if high < v {
-        return true;
-    }
-    false
+    !(low..=high).contains(&v)
 }
 
 // The four numbers of a piece line, whose first is item `at`.
-fn line_out(t: PieceType, at: usize) -> Item
+fn line_out(t: PieceType, at: usize) -> Option<usize>
     requires { at ≤ 49 }
     ensures { LineOut at (type_of t) result }
 {
     if outside(t.length, 1, SIZE_MOST) {
-        return Item::Out(at);
+        return Some(at);
     }
     if outside(t.width, 1, SIZE_MOST) {
-        return Item::Out(at + 1);
+        return Some(at + 1);
     }
     if outside(t.profit, 1, PROFIT_MOST) {
-        return Item::Out(at + 2);
+        return Some(at + 2);
     }
     if outside(t.demand, 1, DEMAND_MOST) {
-        return Item::Out(at + 3);
+        return Some(at + 3);
     }
-    Item::Fine
+    None
 }
 
 // The piece lines up to the count; the first of them begins with item 5.
-fn types_out(types: [PieceType; TYPES_MOST], count: usize) -> Item
+fn types_out(types: [PieceType; TYPES_MOST], count: usize) -> Option<usize>
     requires { count ≤ types_most }
     ensures { item_place result ≡ types_out 5 count (map type_of types) }
 {
-    let mut i = 0;
-    while i < count {
-        let line = line_out(types[i], 5 + 4 * i);
-        i += 1;
-        if let Item::Out(_) = line {
-            return line;
+    for i in 0..count {
+        if let Some(item) = line_out(types[i], 5 + 4 * i) {
+            return Some(item);
         }
     }
-    Item::Fine
+    None
 }
 
-pub fn first_out_of_range(job: Job) -> Item
+// The first item out of range, if there is one.
+pub fn first_out_of_range(job: Job) -> Option<usize>
     ensures { item_place result ≡ out_of_range (items_of job) }
 {
     if outside(job.length, 1, SIZE_MOST) {
-        return Item::Out(1);
+        return Some(1);
     }
     if outside(job.width, 1, SIZE_MOST) {
-        return Item::Out(2);
+        return Some(2);
     }
     if outside(job.kerf, 0, KERF_MOST) {
-        return Item::Out(3);
+        return Some(3);
     }
     let count = job.count;
     if outside(count, 1, TYPES_MOST as u64) {
-        return Item::Out(4);
+        return Some(4);
     }
-    let types = job.types;
-    types_out(types, count as usize)
+    types_out(job.types, count as usize)
 }

@@ -1,5 +1,4 @@
 -- The laws behind the proofs of the functions.
-pub mod Boxes
 pub mod Laying
 pub mod Overlaps
 pub mod Numbering

@@ -1,69 +1,71 @@
 -- The first box that overlaps an earlier one: the search of test 9. Assumes nothing.
 use mathlib.Core.Path.{◌≡◌, refl, sym, ap, ap₂, ◌∙◌}
-use mathlib.Core.Bool.{Bool, true, false}
+use mathlib.Core.Bool.{Bool, true, false, ◌&&◌, ◌||◌}
 use mathlib.Core.List.{List}
-use Prim.Native.Nat.{ℕ, zero, suc, ◌+◌, ◌-◌, ◌≤◌, ◌<◌}
+use Prim.Native.Nat.{ℕ, zero, suc, ◌+◌, ◌≤◌, ◌<◌}
 use native.Mathlib.Omega.{arith}
-use lib.ListN.{length}
+use native.Mathlib.Numerals.{add-one}
+use lib.ListN.{length, get_or, take}
 use lib.Dec.{ltb}
 use borrow.Author.Tests.{lt-ltb}
+use Rattle.std.specs.Prelude.{Some, None}
+use Rattle.std.specs.List.{list_any}
+use Rattle.std.proofs.lemmas.List.Folds.{list_any_more}
 use Rattle.rules.specs.Bag.{tick, count}
-use Rattle.rules.specs.Box.{Box, overlap}
+use Rattle.rules.specs.Box.{Box, along, across, far, overlap}
 use Rattle.rules.specs.Numbers.{Numbers, entries, placed}
 use Rattle.rules.specs.Planner.{slots_of}
 use Rattle.rules.specs.Checker.{overlaps}
-use Rattle.parting.specs.Region.{box_at}
+use Rattle.parting.specs.Region.{no_lines, box_at, Listed}
+use Rattle.parting.specs.declared.Span.{Span}
+use Rattle.parting.specs.declared.Lines.{Lines}
 use Rattle.placing.specs.Place.{entry_at}
-use Rattle.placing.specs.declared.Place.TheVariants.{At, Nowhere}
 use Rattle.placing.proofs.Seeking.{earlier, Seeking, seek_start, seek_next, seek_found, seek_none}
-use Rattle.laying.specs.Laid.{below, overlaps_below, Laid, FirstOverlap}
+use Rattle.laying.specs.Laid.{meet, lines_overlap, overlaps_below, Laid, FirstOverlap}
 
--- nothing from k up to i overlaps box i
-pub record Clear (s : List ℕ) (i k : ℕ) : Type 0 where
-  pub within : k ≤ i
-  pub left : overlaps_below s i ≡ ltb 0 (count (λ v. overlap (box_at s v) (box_at s i)) (below k))
+meet_is : (a b : Span) {m n : ℕ} → a.far ≡ m → b.far ≡ n → meet a b ≡ (ltb a.near n && ltb b.near m)
+meet_is a b e f = λ d. ltb a.near (f d) && ltb b.near (e d)
 
-pub clear_start : (s : List ℕ) (i : ℕ) → Clear s i i
-clear_start s i = record { within = omega arith; left = refl }
+-- the lines of boxes that have a size tell whether the boxes overlap
+lines_tell : {s : List Lines} {i k : ℕ} → Listed s i → Listed s k → lines_overlap (get_or s i no_lines) (get_or s k no_lines) ≡ overlap (box_at s i) (box_at s k)
+lines_tell {s} {i} {k} a b =
+    ap₂ (λ (p q : Bool). p && q) (meet_is _ _ {m = far along (box_at s i)} {n = far along (box_at s k)} (omega (arith, a.thick along)) (omega (arith, b.thick along)))
+    (meet_is _ _ {m = far across (box_at s i)} {n = far across (box_at s k)} (omega (arith, a.thick across)) (omega (arith, b.thick across)))
 
-module _ {s : List ℕ} {i : ℕ} where
-  step : (k : ℕ) → Clear s i (suc k) → (r : Bool) → r ≡ overlap (box_at s k) (box_at s i) → overlaps_below s i ≡ ltb 0 (tick r (count (λ v. overlap (box_at s v) (box_at s i)) (below k)))
-  step k c r e = c.left ∙ ap (λ b. ltb 0 (tick b (count (λ v. overlap (box_at s v) (box_at s i)) (below k)))) (sym e)
+either : (a b : Bool) → (a || b) ≡ (b || a)
+either true true = refl
+either true false = refl
+either false true = refl
+either false false = refl
 
-  pub clear_next : (k : ℕ) → 0 < k → Clear s i k → (r : Bool) → r ≡ overlap (box_at s (k - 1)) (box_at s i) → r ≡ false → Clear s i (k - 1)
-  clear_next zero h c r e f = absurd (omega arith)
-  clear_next (suc k) h c r e f =
-      let z : suc k - 1 ≡ k = omega arith in
-      rw z (record { within = omega (arith, c.within); left = rw f at (step k c r (rw z at e)) })
+one_more : (b : Bool) (n : ℕ) → (b || ltb 0 n) ≡ ltb 0 (tick b n)
+one_more true n = sym (lt-ltb 0 (suc n) (omega arith))
+one_more false n = refl
 
-  pub clear_found : (k : ℕ) → 0 < k → Clear s i k → (r : Bool) → r ≡ overlap (box_at s (k - 1)) (box_at s i) → r ≡ true → true ≡ overlaps_below s i
-  clear_found zero h c r e f = absurd (omega arith)
-  clear_found (suc k) h c r e f =
-      let z : suc k - 1 ≡ k = omega arith in
-      let some : overlaps_below s i ≡ ltb 0 (suc (count (λ v. overlap (box_at s v) (box_at s i)) (below k))) = rw f at (step k c r (rw z at e)) in
-      sym (some ∙ lt-ltb 0 (suc (count (λ v. overlap (box_at s v) (box_at s i)) (below k))) (omega arith))
-
-  pub clear_end : (k : ℕ) → k ≤ 0 → Clear s i k → false ≡ overlaps_below s i
-  clear_end zero h c = sym c.left
-  clear_end (suc k) h c = absurd (omega arith)
-
--- the earlier entries and the earlier boxes are as many that overlap
-as_many : (n : Numbers) (flat s : List ℕ) → Laid n flat s → (b : Box) (i : ℕ) → i ≤ slots_of (length flat) → count (λ v. overlap (box_at s v) b) (below i) ≡ count (λ u. overlap (placed n u).box b) (earlier i (entries flat))
-as_many n flat s l b zero h = refl
-as_many n flat s l b (suc i) h = ap₂ tick (ap (λ c. overlap c b) (l.at i (omega arith))) (as_many n flat s l b i (omega arith))
+-- some earlier box overlaps one where some earlier entry does
+some_earlier : (n : Numbers) (flat : List ℕ) (s : List Lines) → Laid n flat s → (v : ℕ) → Listed s v → (i : ℕ) → i ≤ slots_of (length flat)
+    → list_any (λ b. lines_overlap b (get_or s v no_lines)) (take i s) ≡ ltb 0 (count (λ u. overlap (placed n u).box (box_at s v)) (earlier i (entries flat)))
+some_earlier n flat s laid v lv zero h = refl
+some_earlier n flat s laid v lv (suc i) h =
+    let li = laid.boxed.listed i (omega arith) in
+    let f = λ (b : Lines). lines_overlap b (get_or s v no_lines) in
+    ap (λ m. list_any f (take m s)) (sym (add-one i)) ∙ list_any_more f s i no_lines li.there
+    ∙ ap₂ (λ (a b : Bool). a || b) (some_earlier n flat s laid v lv i (omega arith)) (lines_tell li lv ∙ ap (λ (b : Box). overlap b (box_at s v)) (laid.at i (omega arith)))
+    ∙ either (ltb 0 (count (λ u. overlap (placed n u).box (box_at s v)) (earlier i (entries flat)))) (overlap (placed n (entry_at flat i)).box (box_at s v))
+    ∙ one_more (overlap (placed n (entry_at flat i)).box (box_at s v)) (count (λ u. overlap (placed n u).box (box_at s v)) (earlier i (entries flat)))
 
 -- the first i boxes do not overlap, for any job and list whose boxes these are
-pub record Sparse (s : List ℕ) (boxes i : ℕ) : Type 0 where
+pub record Sparse (s : List Lines) (boxes i : ℕ) : Type 0 where
   pub within : i ≤ boxes
   pub seeks : (n : Numbers) (flat : List ℕ) → boxes ≡ slots_of (length flat) → Laid n flat s → Seeking (overlaps n) flat i
 
-pub sparse_start : (s : List ℕ) (boxes : ℕ) → Sparse s boxes 0
+pub sparse_start : (s : List Lines) (boxes : ℕ) → Sparse s boxes 0
 sparse_start s boxes = record { within = omega arith; seeks = λ n flat e l. seek_start (overlaps n) flat }
 
-module _ {s : List ℕ} {boxes i : ℕ} (g : Sparse s boxes i) where
+module _ {s : List Lines} {boxes i : ℕ} (g : Sparse s boxes i) where
   module _ (h : i < boxes) (r : Bool) (is : r ≡ overlaps_below s i) where
     test : (n : Numbers) (flat : List ℕ) → boxes ≡ slots_of (length flat) → Laid n flat s → r ≡ overlaps n (earlier i (entries flat)) (entry_at flat i)
-    test n flat e l = is ∙ ap (ltb 0) (as_many n flat s l (box_at s i) i (omega arith)) ∙ ap (λ b. overlaps_of n flat b) (l.at i (omega arith))
+    test n flat e l = is ∙ some_earlier n flat s l i (l.boxed.listed i (omega arith)) i (omega arith) ∙ ap (λ b. overlaps_of n flat b) (l.at i (omega arith))
       where
         overlaps_of : Numbers → List ℕ → Box → Bool
         overlaps_of n flat b = ltb 0 (count (λ u. overlap (placed n u).box b) (earlier i (entries flat)))
@@ -71,8 +73,8 @@ module _ {s : List ℕ} {boxes i : ℕ} (g : Sparse s boxes i) where
     pub sparse_next : r ≡ false → Sparse s boxes (i + 1)
     sparse_next f = record { within = omega arith; seeks = λ n flat e l. seek_next (g.seeks n flat e l) (omega arith) refl (test n flat e l) f }
 
-    pub sparse_found : r ≡ true → FirstOverlap s boxes (At i)
+    pub sparse_found : r ≡ true → FirstOverlap s boxes (Some i)
     sparse_found f = record { first = λ n flat e l. seek_found (g.seeks n flat e l) (omega arith) refl (test n flat e l) f }
 
-  pub sparse_end : boxes ≤ i → FirstOverlap s boxes Nowhere
+  pub sparse_end : boxes ≤ i → FirstOverlap s boxes None
   sparse_end h = record { first = λ n flat e l. seek_none (g.seeks n flat e l) (omega arith) }

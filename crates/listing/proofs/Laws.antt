@@ -1,11 +1,12 @@
 -- The queue of classes: a class comes behind, the classes that follow one, and the end of the queue. Assumes nothing.
+use Rattle.std.specs.Prelude.{Result}
 use mathlib.Core.Path.{◌≡◌, refl, sym, ap, ap₂, ◌∙◌, subst}
 use mathlib.Core.List.Memᴰ
 use mathlib.Core.List.{List, ◌++◌, Memᴰ}
 use Prim.Native.Nat.{ℕ, suc, ◌+◌, ◌-◌, ◌*◌, ◌≤◌, ◌<◌}
 use native.Mathlib.Omega.{arith}
 use native.Mathlib.Decide.{ℕ_discrete, dec_lt}
-use lib.ListN.{length, get_or, set, take, get_or-eq_default}
+use lib.ListN.{length, get_or, set, take}
 use lib.Seq.{get_or-take, get_or-set_same, set-set, set-get_or}
 use Rattle.rules.specs.Bag.{sum}
 use Rattle.rules.specs.Box.{Way, along, across}
@@ -28,7 +29,7 @@ use Rattle.arena.proofs.Laws.{recs_same}
 use Rattle.classes.specs.Directory.{end_link, Begins, Turn, Class, less_of, Lacking, Entered, counts_at, Enterable}
 use Rattle.classes.proofs.Laws.{class_at, next_begins, directory_kept}
 use Rattle.sorting.specs.Merging.{BothOrders}
-use Rattle.outlines.specs.declared.Listed.{Listed}
+use Rattle.outlines.specs.declared.ArenaFull.{ArenaFull}
 use Rattle.outlines.specs.Listing.{recs_in, outlines_in, outlines_of, no_outline, Sound, Held, Ready, AllListed}
 use Rattle.outlines.proofs.Laws.{length_outlines, outline_at_lem, grown_self, grown_le, grown_then, outlines_stay}
 use Rattle.growing.specs.Growing.{Came, Growing}
@@ -230,9 +231,6 @@ target_none {job} {s = s} {n = n} {c = c} h k = followed_self h.classed (λ o b 
             k.none i x (f ∙ less_more k.type a.counts c d (omega (arith, k.among)))
 
 -- a class that is there is whole
-pub target_there : {job : Job} {least : Least} {s : List ℕ} {n half : ℕ} {c : List ℕ} → Target job least s n half c → (p : ℕ) → Class job.count s n p → key_at job s p ≡ c → Followed job (WholeIn job c) (sum c) s n s n
-target_there {job} {s = s} {n = n} h p k e = followed_self h.classed (subst (λ v. WholeIn job v (outlines_in job s n)) e (h.classed.whole p (omega (arith, k.some, k.ends))))
-
 -- one piece more than class p
 module _ {job : Job} {least : Least} {s : List ℕ} {n half p : ℕ} (h : Source job least s n half p) (t : ℕ) (among : t < job.count) where
   long : length (key_at job s p) ≡ job.count
@@ -259,7 +257,7 @@ module _ {job : Job} {least : Least} {s : List ℕ} {n half p : ℕ} (h : Source
     half_at = subst (λ k. HalfAt job least s n k half) (sym more_sum) h.half_at;
   }
 
-  pub more_follows : (c : List ℕ) → c ≡ one_more t (key_at job s p) → (u : List ℕ) (r : Listed) → Follows job (WholeIn job c) (sum c) s n u r → Follows job (WholeIn job (one_more t (key_at job s p))) (suc (pieces_at job s p)) s n u r
+  pub more_follows : (c : List ℕ) → c ≡ one_more t (key_at job s p) → (u : List ℕ) (r : Result ℕ ArenaFull) → Follows job (WholeIn job c) (sum c) s n u r → Follows job (WholeIn job (one_more t (key_at job s p))) (suc (pieces_at job s p)) s n u r
   more_follows c e u r f = subst (λ k. Follows job (WholeIn job (one_more t (key_at job s p))) k s n u r) more_sum (subst (λ k. Follows job (WholeIn job k) (sum k) s n u r) e f)
 
 -- classes have come behind: what was half is half
@@ -313,13 +311,6 @@ pub record Following (job : Job) (least : Least) (s : List ℕ) (n half p : ℕ)
   pub followed : Followed job (λ l. (u : ℕ) → after ≤ u → u < job.count → NoneAfter u (key_at job s p) → WholeIn job (one_more u (key_at job s p)) l) (suc (pieces_at job s p)) s n t m
 
 module _ {job : Job} {least : Least} {s : List ℕ} {n half p : ℕ} (h : Source job least s n half p) where
-  pub following_start : Following job least s n half p s n job.count
-  following_start = record {
-    upto = omega arith;
-    none = λ u x. get_or-eq_default (key_at job s p) 0 (omega (arith, key_length h.classed.ready p h.here));
-    followed = followed_self h.classed (λ u x y. absurd (omega arith));
-  }
-
   module _ {t : List ℕ} {m after : ℕ} (g : Following job least s n half p t m after) where
     here_now : key_at job t p ≡ key_at job s p
     here_now = key_follows g.followed p h.here
@@ -366,15 +357,7 @@ module _ {job : Job} {least : Least} {s : List ℕ} {n half p : ℕ} (h : Source
           each v x (yes e) = ap (λ w. get_or (key_at job s p) w 0) e ∙ zero_at
           each v x (no e) = g.none v (omega arith)
 
-    pub following_end : after ≡ 0 → Followed job (NextIn job (key_at job s p)) (suc (pieces_at job s p)) s n t m
-    following_end e = followed_with g.followed (λ v hi no_one. g.followed.grown.has v (omega arith) hi no_one)
-
 -- nothing is passed
-pub no_halves : (job : Job) (least : Least) (s : List ℕ) (n most : ℕ) → HalvesAt job least s n most (record { passed = 0; tried = 0 })
-no_halves job least s n most =
-    let t : Turn job.count s n 0 = record { upto = omega arith; begins = λ x q y. absurd (omega arith) } in
-    record { turn = t; tried_turn = t; upto = omega arith; few = λ q x. absurd (omega arith); idle = λ q x y. absurd (omega arith) }
-
 -- a class with at most half of the pieces is passed
 module _ {job : Job} {least : Least} {s : List ℕ} {n most : ℕ} {from : Halves} (g : Passing job least s n most from) {h : Halves} (k : HalvesAt job least s n most h) (some : h.passed < n) where
   pub passed_class : Class job.count s n h.passed
@@ -514,6 +497,3 @@ module _ {types : ℕ} {s t : List ℕ} {start n : ℕ} {c : List ℕ} (g : Grow
     counts = λ q x y. counts_ordered q ∙ g.counts q x y;
     orders = b.orders;
   }
-
-  pub ordered_entered : {u : List ℕ} → Entered types n t u → Entered types n s u
-  ordered_entered e = record { same_length = e.same_length ∙ b.kept.same_length; records = λ i. e.records i ∙ b.records i; directory = e.directory }

@@ -1,5 +1,5 @@
 -- What the arena holds while classes are listed one after the other, in order of their pieces. Assumes nothing.
-use Rattle.std.specs.Prelude.{◌≡◌, List, ℕ, suc, ◌*◌, ◌≤◌, ◌<◌, length, get_or}
+use Rattle.std.specs.Prelude.{◌≡◌, List, ℕ, suc, ◌*◌, ◌≤◌, ◌<◌, length, get_or, Result, Ok, Err}
 use Rattle.rules.specs.Bag.{sum}
 use Rattle.rules.specs.Box.{Way}
 use Rattle.rules.specs.Job as rules
@@ -11,8 +11,7 @@ use Rattle.outline.specs.declared.Least.{Least}
 use Rattle.outline.specs.Stands.{job_for, LeastOf}
 use Rattle.arena.specs.Records.{record_at}
 use Rattle.classes.specs.Directory.{Begins, Turn, Directory}
-use Rattle.outlines.specs.declared.Listed.{Listed}
-use Rattle.outlines.specs.declared.Listed.TheVariants.{Complete, Full}
+use Rattle.outlines.specs.declared.ArenaFull.{ArenaFull}
 use Rattle.outlines.specs.Listing.{outlines_in, Ready, StartsIn, Grown, TooMany}
 use Rattle.pairing.specs.Pairs.{key_at, IdleAt}
 use Rattle.listing.specs.declared.Halves.{Halves}
@@ -81,9 +80,9 @@ pub record Followed (job : Job) (P : List rules.Outline → Type 0) (k : ℕ) (s
   pub new : (q : ℕ) → n ≤ q → q < m → pieces_at job t q ≡ k
   pub turn : n < m → Begins job.count t n
 
-abbrev pub Follows : (job : Job) (P : List rules.Outline → Type 0) (k : ℕ) (s : List ℕ) (n : ℕ) (t : List ℕ) → Listed → Type 0
-Follows job P k s n t (Complete m) = Followed job P k s n t m
-Follows job P k s n t Full = TooMany job s
+abbrev pub Follows : (job : Job) (P : List rules.Outline → Type 0) (k : ℕ) (s : List ℕ) (n : ℕ) (t : List ℕ) → Result ℕ ArenaFull → Type 0
+Follows job P k s n t (Ok m) = Followed job P k s n t m
+Follows job P k s n t (Err full) = TooMany job s
 
 -- counts whose class comes next: all builds with fewer pieces are listed, and none with more
 pub record Target (job : Job) (least : Least) (s : List ℕ) (n half : ℕ) (c : List ℕ) : Type 0 where
@@ -118,6 +117,6 @@ pub record SinglesGrown (job : Job) (P : List rules.Outline → Type 0) (k : ℕ
   pub grown : Grown job P s n t m
   pub to : SinglesTo job t m k
 
-abbrev pub SinglesGrow : (job : Job) (P : List rules.Outline → Type 0) (k : ℕ) (s : List ℕ) (n : ℕ) (t : List ℕ) → Listed → Type 0
-SinglesGrow job P k s n t (Complete m) = SinglesGrown job P k s n t m
-SinglesGrow job P k s n t Full = TooMany job s
+abbrev pub SinglesGrow : (job : Job) (P : List rules.Outline → Type 0) (k : ℕ) (s : List ℕ) (n : ℕ) (t : List ℕ) → Result ℕ ArenaFull → Type 0
+SinglesGrow job P k s n t (Ok m) = SinglesGrown job P k s n t m
+SinglesGrow job P k s n t (Err full) = TooMany job s

@@ -20,13 +20,12 @@ ghost use Rattle.listing.specs.Queue.{pieces_at, WholeIn, NextIn, Passing, Passe
 ghost use Rattle.shapes.specs.Handed.{JobInRange};
 
 use arena::{How, Record};
-use classes::Found;
 use outline::Least;
-use outlines::Listed;
+use outlines::ArenaFull;
 use shapes::{Job, TYPES_MOST};
 
 // Of the classes before `passed`, which have at most half of the pieces that classes now get, those that join at all stand before `tried`.
-#[derive(Clone, Copy)]
+#[derive(Clone, Copy, Debug, PartialEq, Eq)]
 pub struct Halves {
     pub passed: usize,
     pub tried: usize,
@@ -40,6 +39,7 @@ fn half_of(job: Job, arena: &[u8], from: Halves, n: usize, most: usize, least: L
     let types = job.count as usize;
     let mut passed = from.passed;
     let mut tried = from.tried;
+    // from class to class: each ends where the next begins
     while passed < n {
         let at = passed;
         if most < 2 * arena::pieces_at(arena, at, types) {
@@ -72,17 +72,13 @@ fn new_class(
     counts: [u8; TYPES_MOST],
     weight: u64,
     least: Least,
-) -> Listed
+) -> Result<usize, ArenaFull>
     requires { Target job least arena.old start half (take job.count counts) × Sought job least arena.old start half (take job.count counts) × (weight ≡ weighed 0 (take job.count counts)) }
     ensures { Follows job (WholeIn job (take job.count counts)) (sum (take job.count counts)) arena.old start arena.new result }
 {
-    match halving::grow_class(job, arena, start, half, counts, weight, least) {
-        Listed::Full => Listed::Full,
-        Listed::Complete(n) => {
-            close_class(arena, start, n, counts, job.count as usize);
-            Listed::Complete(n)
-        }
-    }
+    let n = halving::grow_class(job, arena, start, half, counts, weight, least)?;
+    close_class(arena, start, n, counts, job.count as usize);
+    Ok(n)
 }
 
 // All outlines with these counts. A build less a piece is a build: where a class with one piece less is not there, no build has them.
@@ -93,20 +89,16 @@ fn add_target(
     half: usize,
     counts: [u8; TYPES_MOST],
     least: Least,
-) -> Listed
+) -> Result<usize, ArenaFull>
     requires { Target job least arena.old n half (take job.count counts) }
     ensures { Follows job (WholeIn job (take job.count counts)) (sum (take job.count counts)) arena.old n arena.new result }
 {
     let types = job.count as usize;
     let weight = weighing::weight_of(counts, types);
     match classes::find_weighed(arena, n, &counts, types, weight) {
-        Found::At(_) => Listed::Complete(n),
-        Found::Nowhere => {
-            if classes::lacks_less(arena, n, counts, types, weight) {
-                return Listed::Complete(n);
-            }
-            new_class(job, arena, n, half, counts, weight, least)
-        }
+        Some(_) => Ok(n),
+        None if classes::lacks_less(arena, n, counts, types, weight) => Ok(n),
+        None => new_class(job, arena, n, half, counts, weight, least),
     }
 }
 
@@ -119,44 +111,41 @@ fn add_more(
     p: usize,
     t: usize,
     least: Least,
-) -> Listed
+) -> Result<usize, ArenaFull>
     requires { Source job least arena.old n half p × (t < job.count) }
     ensures { Follows job (WholeIn job (one_more t (key_at job arena.old p))) (suc (pieces_at job arena.old p)) arena.old n arena.new result }
 {
-    if job.types[t].demand <= arena::count_at(arena, p, t) as u64 {
-        return Listed::Complete(n);
+    if job.types[t].demand <= u64::from(arena::count_at(arena, p, t)) {
+        return Ok(n);
     }
     let counts = arena::more_at(arena, p, t, job.count as usize);
     add_target(job, arena, n, half, counts, least)
 }
 
 // All outlines with one piece more than class p has, of the last type that it has or of a later one.
-fn add_next(job: Job, arena: &mut [u8], first: usize, half: usize, p: usize, least: Least) -> Listed
+fn add_next(
+    job: Job,
+    arena: &mut [u8],
+    first: usize,
+    half: usize,
+    p: usize,
+    least: Least,
+) -> Result<usize, ArenaFull>
     requires { Source job least arena.old first half p }
     ensures { Follows job (NextIn job (key_at job arena.old p)) (suc (pieces_at job arena.old p)) arena.old first arena.new result }
 {
     let mut n = first;
-    let mut after = job.count as usize;
-    while 0 < after {
-        let t = after - 1;
-        match add_more(job, arena, n, half, p, t, least) {
-            Listed::Full => {
-                return Listed::Full;
-            }
-            Listed::Complete(m) => {
-                n = m;
-            }
-        }
+    for t in (0..job.count as usize).rev() {
+        n = add_more(job, arena, n, half, p, t, least)?;
         if arena::count_at(arena, p, t) > 0 {
-            return Listed::Complete(n);
+            return Ok(n);
         }
-        after = t;
     }
-    Listed::Complete(n)
+    Ok(n)
 }
 
 // The list grows while it is walked.
-fn list_joins(job: Job, arena: &mut [u8], singles: usize, least: Least) -> Listed
+fn list_joins(job: Job, arena: &mut [u8], singles: usize, least: Least) -> Result<usize, ArenaFull>
     requires { Queued job arena.old singles 0 × LeastOf job least }
     ensures { Lists job arena.old arena.new result }
 {
@@ -167,80 +156,51 @@ fn list_joins(job: Job, arena: &mut [u8], singles: usize, least: Least) -> Liste
         tried: 0,
     };
     let mut p = 0;
+    // from class to class, while more come behind them
     while p < n {
         let at = p;
         let most = arena::pieces_at(arena, at, types) + 1;
         halves = half_of(job, arena, halves, n, most, least);
         p = classes::end_of(arena, at);
-        match add_next(job, arena, n, halves.tried, at, least) {
-            Listed::Full => {
-                return Listed::Full;
-            }
-            Listed::Complete(m) => {
-                n = m;
-            }
-        }
+        n = add_next(job, arena, n, halves.tried, at, least)?;
     }
-    Listed::Complete(n)
+    Ok(n)
 }
 
 // Adds the piece of type t, counted from 0, if it fits: a class of its own.
-fn add_single(job: Job, arena: &mut [u8], n: usize, t: usize) -> Listed
+fn add_single(job: Job, arena: &mut [u8], n: usize, t: usize) -> Result<usize, ArenaFull>
     requires { SinglesTo job arena.old n t × (t < job.count) }
     ensures { SinglesGrow job (SingleIn job t) (suc t) arena.old n arena.new result }
 {
     let o = outline::single(job, t);
     if !o.fits(job) {
-        return Listed::Complete(n);
+        return Ok(n);
     }
-    let counts = o.counts;
-    match growing::add(
-        job,
-        arena,
-        n,
-        n,
-        Record {
-            outline: o,
-            how: How::Piece(t + 1),
-        },
-    ) {
-        Listed::Full => Listed::Full,
-        Listed::Complete(m) => {
-            close_class(arena, n, m, counts, job.count as usize);
-            Listed::Complete(m)
-        }
-    }
+    let build = Record {
+        outline: o,
+        how: How::Piece(t + 1),
+    };
+    let m = growing::add(job, arena, n, n, build)?;
+    close_class(arena, n, m, o.counts, job.count as usize);
+    Ok(m)
 }
 
-fn list_singles(job: Job, arena: &mut [u8]) -> Listed
+fn list_singles(job: Job, arena: &mut [u8]) -> Result<usize, ArenaFull>
     requires { JobInRange job × Directory job.count arena.old 0 }
     ensures { SinglesGrow job (StartsIn job) job.count arena.old 0 arena.new result }
 {
-    let types = job.count as usize;
     let mut n = 0;
-    let mut t = 0;
-    while t < types {
-        let at = t;
-        t += 1;
-        match add_single(job, arena, n, at) {
-            Listed::Full => {
-                return Listed::Full;
-            }
-            Listed::Complete(m) => {
-                n = m;
-            }
-        }
+    for t in 0..job.count as usize {
+        n = add_single(job, arena, n, t)?;
     }
-    Listed::Complete(n)
+    Ok(n)
 }
 
-pub fn list_outlines(job: Job, arena: &mut [u8]) -> Listed
+pub fn list_outlines(job: Job, arena: &mut [u8]) -> Result<usize, ArenaFull>
     requires { JobInRange job }
     ensures { Lists job arena.old arena.new result }
 {
     arena::zero(arena);
-    match list_singles(job, arena) {
-        Listed::Full => Listed::Full,
-        Listed::Complete(n) => list_joins(job, arena, n, outline::least_sizes(job)),
-    }
+    let singles = list_singles(job, arena)?;
+    list_joins(job, arena, singles, outline::least_sizes(job))
 }

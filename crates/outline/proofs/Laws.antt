@@ -3,18 +3,16 @@ use mathlib.Core.Path.{◌≡◌, refl, sym, ap, ◌∙◌, subst}
 use mathlib.Core.Logic.{◌⊎◌, inl, inr}
 use mathlib.Core.List.Memᴰ
 use mathlib.Core.List.{List, [], ◌∷◌, map, Memᴰ}
-use Prim.Native.Nat.{ℕ, zero, suc, ◌+◌, ◌%◌, ◌≤◌, ◌<◌, min}
+use Prim.Native.Nat.{ℕ, zero, suc, ◌+◌, ◌%◌, ◌≤◌, ◌<◌}
 use native.Mathlib.Omega.{arith}
 use native.Mathlib.Decide.{ℕ_discrete}
 use lib.Dec.{eqb}
 use lib.ListN.{length, get_or, take, set, replicate, length-set, length-map, length-replicate, get_or-replicate, get_or-map}
 use lib.Seq.{ext_get_or, get_or-take, get_or-set_same, get_or-set_other, length-take-le}
-use borrow.Author.Count.{below_more}
 use borrow.Author.Tests.{eq-eqb, ne_eqb}
 use Rattle.rules.specs.Limits.{types_most, demand_most}
 use Rattle.rules.specs.Bag.{tick, All, nil, cons}
 use Rattle.rules.specs.Box.{Way, along, across}
-use Rattle.rules.specs.Job as rules
 use Rattle.rules.specs.Job.{AtMost, Piece, plus, table, types, alone}
 use Rattle.rules.specs.Numbers.{PieceType, no_type, grown, singles_from}
 use Rattle.rules.proofs.Tally.{length_table}
@@ -24,8 +22,7 @@ use Rattle.shapes.specs.declared.Job.{Job}
 use Rattle.shapes.specs.declared.PieceType as shapes
 use Rattle.shapes.specs.Handed.{type_of, numbers_of, JobInRange}
 use Rattle.outline.specs.declared.Least as code
-use Rattle.outline.specs.declared.Outline.{Outline}
-use Rattle.outline.specs.Stands.{job_for, piece_at, Few, sums, Alone, LeastAmong, LeastOf, least_by, two_bytes}
+use Rattle.outline.specs.Stands.{job_for, piece_at, Few, sums, Alone, LeastOf, least_by}
 
 -- counts added in bytes
 pub length_sums : (a b : List ℕ) → length a ≡ length b → length (sums a b) ≡ length a
@@ -129,18 +126,7 @@ single_at job r m =
     let z : 1 + q.0 ≡ suc q.0 = omega arith in
     (q.0, omega (arith, q.1, count_types job r), q.2 ∙ (λ j. grown job.kerf (z j) (get_or (numbers_of job).types q.0 no_type)))
 
--- the least sizes, type by type
-pub least_none : (job : Job) → LeastAmong job 0 (record { length = two_bytes; width = two_bytes })
-least_none job = record { long = λ t h. absurd (omega arith); wide = λ t h. absurd (omega arith); long_small = omega arith; wide_small = omega arith }
-
-pub least_next : (job : Job) (t : ℕ) {l w x y : ℕ} (o : Outline) → LeastAmong job t (record { length = l; width = w }) → Alone job t o → x ≡ min l o.length.0 → y ≡ min w o.width.0 → LeastAmong job (t + 1) (record { length = x; width = y })
-least_next job t o r a p q = record {
-  long = below_more _ t (λ k h. omega (arith, r.long k h)) (omega (arith, ap (λ (u : rules.Outline). u.long) a.alone));
-  wide = below_more _ t (λ k h. omega (arith, r.wide k h)) (omega (arith, ap (λ (u : rules.Outline). u.wide) a.alone));
-  long_small = omega (arith, r.long_small);
-  wide_small = omega (arith, r.wide_small);
-}
-
+-- the least sizes bound those of each piece
 pub least_of : (job : Job) → JobInRange job → (w : Way) (r : code.Least) → LeastOf job r → Least (job_for job) w (least_by w r)
 least_of job range w r l = record { each = λ p m. go w p (single_at job range m) }
   where

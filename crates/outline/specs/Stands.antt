@@ -27,6 +27,15 @@ abbrev pub way_of : Way → box.Way
 way_of Beside = box.along
 way_of Above = box.across
 
+-- the number of a way in the arena's links and sizes, and the sheet's side in it
+abbrev pub number_of : Way → ℕ
+number_of Beside = 0
+number_of Above = 1
+
+abbrev pub side_of : Job → Way → ℕ
+side_of job Beside = job.length
+side_of job Above = job.width
+
 -- what two bytes hold is below
 abbrev pub two_bytes : ℕ
 two_bytes = 65_536

@@ -3,23 +3,24 @@
 // and lengths and widths are types of their own, so that no join can add a width to a length.
 #![tactic(auto)]
 
-ghost use Rattle.std.specs.Prelude.{◌≡◌, ◌+◌, ◌%◌, ◌<◌, max, min, take};
+ghost use Rattle.std.specs.Prelude.{◌≡◌, ◌+◌, ◌<◌, max, take};
 ghost use Rattle.rules.specs.Job.{horizontal, vertical};
 ghost use Rattle.rules.proofs.Bridge.{join};
+ghost use Rattle.rules.proofs.Classes.{turned};
 ghost use Rattle.rules.proofs.Outlines.{at_most, fits};
-ghost use Rattle.outline.specs.Stands.{job_for, outline_of, Sized, sums, Joins, way_of, Alone, LeastOf, two_bytes};
+ghost use Rattle.outline.specs.Stands.{job_for, outline_of, Sized, sums, Joins, way_of, number_of, side_of, Alone, LeastOf, least_by, two_bytes};
 ghost use Rattle.shapes.specs.Handed.{JobInRange};
 
 use shapes::{Job, TYPES_MOST};
 
-#[derive(Clone, Copy)]
+#[derive(Clone, Copy, Debug, PartialEq, Eq)]
 pub struct Along(pub u64);
 
-#[derive(Clone, Copy)]
+#[derive(Clone, Copy, Debug, PartialEq, Eq)]
 pub struct Across(pub u64);
 
 // Counts of types past those of the job are never read.
-#[derive(Clone, Copy)]
+#[derive(Clone, Copy, Debug, PartialEq, Eq)]
 pub struct Outline {
     pub length: Along,
     pub width: Across,
@@ -27,12 +28,41 @@ pub struct Outline {
 }
 
 // How two outlines are put together: `Beside` is the horizontal build, `Above` the vertical one.
-#[derive(Clone, Copy)]
+#[derive(Clone, Copy, Debug, PartialEq, Eq)]
 pub enum Way {
     Beside,
     Above,
 }
 
+impl Way {
+    // The way's number, as links and sizes are numbered in the arena.
+    pub fn number(self) -> usize
+        ensures { result ≡ number_of self }
+    {
+        self as usize
+    }
+
+    pub fn turned(self) -> Way
+        ensures { way_of result ≡ turned (way_of self) }
+    {
+        match self {
+            Way::Beside => Way::Above,
+            Way::Above => Way::Beside,
+        }
+    }
+
+    // The sheet's side that sizes of this way add up along.
+    pub fn side(self, job: Job) -> u64
+        ensures { result ≡ side_of job self }
+    {
+        match self {
+            Way::Beside => job.length,
+            Way::Above => job.width,
+        }
+    }
+}
+
+// Both have the same two methods: one type with a parameter would not be document 01's two, and a trait over both is longer than the four lines.
 impl Along {
     pub fn plus(self, other: Along) -> Along
         requires { (self.0 < two_bytes) × (other.0 < two_bytes) }
@@ -44,7 +74,7 @@ impl Along {
     pub fn larger(self, other: Along) -> Along
         ensures { result.0 ≡ max self.0 other.0 }
     {
-        if self.0 < other.0 { other } else { self }
+        Along(self.0.max(other.0))
     }
 }
 
@@ -59,26 +89,17 @@ impl Across {
     pub fn larger(self, other: Across) -> Across
         ensures { result.0 ≡ max self.0 other.0 }
     {
-        if self.0 < other.0 { other } else { self }
+        Across(self.0.max(other.0))
     }
 }
 
-// In a byte: two builds of a job hold at most 100 of a type.
-fn sum(a: u8, b: u8) -> u8
-    ensures { result ≡ (a + b) % 256 }
-{
-    ((a as u64 + b as u64) % 256) as u8
-}
-
-// The counts of both.
+// The counts of both, each in a byte: two builds of a job hold at most 100 of a type.
 fn added(a: [u8; TYPES_MOST], b: [u8; TYPES_MOST]) -> [u8; TYPES_MOST]
     ensures { result ≡ sums a b }
 {
     let mut r = a;
-    let mut i = 0;
-    while i < TYPES_MOST {
-        r[i] = sum(a[i], b[i]);
-        i += 1;
+    for i in 0..TYPES_MOST {
+        r[i] = a[i].wrapping_add(b[i]);
     }
     r
 }
@@ -88,12 +109,8 @@ fn demands_kept(counts: [u8; TYPES_MOST], job: Job) -> bool
     requires { JobInRange job }
     ensures { result ≡ at_most (take job.count counts) (job_for job).demands }
 {
-    let n = job.count as usize;
-    let mut i = 0;
-    while i < n {
-        let at = i;
-        i += 1;
-        if job.types[at].demand < counts[at] as u64 {
+    for i in 0..job.count as usize {
+        if job.types[i].demand < u64::from(counts[i]) {
             return false;
         }
     }
@@ -106,15 +123,10 @@ impl Outline {
         requires { Sized self × Sized other }
         ensures { Joins horizontal self other result }
     {
-        let a = self.counts;
-        let b = other.counts;
-        let counts = added(a, b);
-        let length = self.length.plus(other.length);
-        let width = self.width.larger(other.width);
         Outline {
-            length,
-            width,
-            counts,
+            length: self.length.plus(other.length),
+            width: self.width.larger(other.width),
+            counts: added(self.counts, other.counts),
         }
     }
 
@@ -123,15 +135,10 @@ impl Outline {
         requires { Sized self × Sized other }
         ensures { Joins vertical self other result }
     {
-        let a = self.counts;
-        let b = other.counts;
-        let counts = added(a, b);
-        let length = self.length.larger(other.length);
-        let width = self.width.plus(other.width);
         Outline {
-            length,
-            width,
-            counts,
+            length: self.length.larger(other.length),
+            width: self.width.plus(other.width),
+            counts: added(self.counts, other.counts),
         }
     }
 
@@ -150,14 +157,7 @@ impl Outline {
         requires { JobInRange job }
         ensures { result ≡ fits (job_for job) (outline_of job.count self) }
     {
-        if job.length < self.length.0 {
-            return false;
-        }
-        if job.width < self.width.0 {
-            return false;
-        }
-        let counts = self.counts;
-        demands_kept(counts, job)
+        self.length.0 <= job.length && self.width.0 <= job.width && demands_kept(self.counts, job)
     }
 }
 
@@ -166,29 +166,32 @@ pub fn single(job: Job, t: usize) -> Outline
     requires { JobInRange job × (t < job.count) }
     ensures { Alone job t result }
 {
-    let mut counts = [0u8; TYPES_MOST];
+    let mut counts = [0; TYPES_MOST];
     counts[t] = 1;
-    let length = Along(job.types[t].length + job.kerf);
-    let width = Across(job.types[t].width + job.kerf);
+    let piece = job.types[t];
     Outline {
-        length,
-        width,
+        length: Along(piece.length + job.kerf),
+        width: Across(piece.width + job.kerf),
         counts,
     }
 }
 
-// The smaller of the two.
-fn smaller(a: u64, b: u64) -> u64
-    ensures { result ≡ min a b }
-{
-    if b < a { b } else { a }
-}
-
 // Sizes below which no piece of a job is, and so no build.
-#[derive(Clone, Copy)]
+#[derive(Clone, Copy, Debug, PartialEq, Eq)]
 pub struct Least {
     pub length: u64,
     pub width: u64,
+}
+
+impl Least {
+    pub fn in_way(self, way: Way) -> u64
+        ensures { result ≡ least_by (way_of way) self }
+    {
+        match way {
+            Way::Beside => self.length,
+            Way::Above => self.width,
+        }
+    }
 }
 
 // What two bytes hold is below: no piece of a job is as large.
@@ -199,15 +202,12 @@ pub fn least_sizes(job: Job) -> Least
     requires { JobInRange job }
     ensures { LeastOf job result }
 {
-    let n = job.count as usize;
     let mut length = TWO_BYTES;
     let mut width = TWO_BYTES;
-    let mut t = 0;
-    while t < n {
+    for t in 0..job.count as usize {
         let o = single(job, t);
-        length = smaller(length, o.length.0);
-        width = smaller(width, o.width.0);
-        t += 1;
+        length = length.min(o.length.0);
+        width = width.min(o.width.0);
     }
     Least { length, width }
 }

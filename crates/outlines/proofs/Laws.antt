@@ -30,9 +30,7 @@ use Rattle.outline.specs.declared.Way.TheVariants.{Beside, Above}
 use Rattle.arena.specs.Bytes.{link_of}
 use Rattle.arena.specs.Records.{record_at, maker_of, rec_of, recs, Storable, Stored, Loaded}
 use Rattle.arena.proofs.Laws.{length_recs, recs_at, recs_more}
-use Rattle.outlines.specs.declared.Listed.{Listed}
-use Rattle.outlines.specs.declared.Listed.TheVariants.{Complete, Full}
-use Rattle.outlines.specs.Listing.{recs_in, outlines_of, outlines_in, no_outline, Building, Sound, Held, Holds, Ready, Addable, Joinable, OutlineIn, SingleIn, JoinIn, StartsIn, Grown, TooMany, Lists}
+use Rattle.outlines.specs.Listing.{recs_in, outlines_of, outlines_in, no_outline, Building, Sound, Held, Holds, Ready, Addable, Joinable, OutlineIn, SingleIn, JoinIn, StartsIn, Grown, TooMany}
 use Rattle.outlines.proofs.Lists.{mem_at, sound_more, too_many_with}
 
 -- the outlines of records
@@ -216,6 +214,3 @@ pub singles_more : (job : Job) (t m : ℕ) → (l b : List rules.Outline) → le
 singles_more job t m l b e f g = below_more (λ u. SingleIn job u (l ++ b)) t (λ u h k. Memᴰ.append_left b (f u h k)) g
 
 -- the listing of an arena is that of any arena of its length
-pub lists_then : (job : Job) (s t u : List ℕ) → length t ≡ length s → (r : Listed) → Lists job t u r → Lists job s u r
-lists_then job s t u e (Complete n) l = record { room = omega (arith, l.room, ap room_of e); all = l.all; valid = l.valid }
-lists_then job s t u e Full l = too_many_then job s t e l

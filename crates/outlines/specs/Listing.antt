@@ -1,5 +1,5 @@
 -- What the arena holds while outlines are listed, and when all are. Assumes nothing.
-use Rattle.std.specs.Prelude.{◌≡◌, Bool, true, false, ℕ, ◌≤◌, ◌<◌, length, get_or}
+use Rattle.std.specs.Prelude.{◌≡◌, Bool, true, false, ℕ, ◌≤◌, ◌<◌, length, get_or, Result, Ok, Err}
 use mathlib.Core.List.{List, map, ◌++◌, Memᴰ}
 use Rattle.rules.specs.Bag.{All}
 use Rattle.rules.specs.Box.{Way}
@@ -14,8 +14,7 @@ use Rattle.outline.specs.Stands.{job_for, piece_at, outline_of, two_bytes}
 use Rattle.arena.specs.declared.Record.{Record}
 use Rattle.arena.specs.Bytes.{link_of}
 use Rattle.arena.specs.Records.{maker_of, recs}
-use Rattle.outlines.specs.declared.Listed.{Listed}
-use Rattle.outlines.specs.declared.Listed.TheVariants.{Complete, Full}
+use Rattle.outlines.specs.declared.ArenaFull.{ArenaFull}
 
 -- the first n records of the arena, and their outlines
 abbrev pub recs_in : Job → List ℕ → ℕ → List Rec
@@ -93,16 +92,12 @@ pub record Grown (job : Job) (P : List rules.Outline → Type 0) (s : List ℕ) 
 abbrev pub TooMany : Job → List ℕ → Type 0
 TooMany job s = MoreThan (Building job) (room_of (length s))
 
-abbrev pub Grows : (job : Job) (P : List rules.Outline → Type 0) (s : List ℕ) (n : ℕ) (t : List ℕ) → Listed → Type 0
-Grows job P s n t (Complete m) = Grown job P s n t m
-Grows job P s n t Full = TooMany job s
-
 -- n records, in the arena's room, hold all outlines of the job, each once, and each made as it says
 pub record AllListed (job : Job) (s t : List ℕ) (n : ℕ) : Type 0 where
   pub room : n ≤ room_of (length s)
   pub all : rules.AllOutlines (job_for job) (outlines_in job t n)
   pub valid : Valid (job_for job) (recs_in job t n)
 
-abbrev pub Lists : (job : Job) (s t : List ℕ) → Listed → Type 0
-Lists job s t (Complete n) = AllListed job s t n
-Lists job s t Full = TooMany job s
+abbrev pub Lists : (job : Job) (s t : List ℕ) → Result ℕ ArenaFull → Type 0
+Lists job s t (Ok n) = AllListed job s t n
+Lists job s t (Err full) = TooMany job s

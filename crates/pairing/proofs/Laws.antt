@@ -1,15 +1,14 @@
 -- Two classes are joined in the ways in which they need be: which first halves need not be tried is told by sizes. Assumes nothing.
+use Rattle.std.specs.Prelude.{Result}
 use mathlib.Core.Path.{◌≡◌, refl, sym, ap, ap₂, ◌∙◌, subst}
-use mathlib.Core.Bool.{Bool, true, false, true≢false}
-use mathlib.Core.Logic.{◌⊎◌, inl, inr}
+use mathlib.Core.Logic.{inl, inr}
 use mathlib.Core.List.{List, ◌++◌}
 use Prim.Native.Nat.{ℕ, suc, ◌+◌, ◌*◌, ◌≤◌, ◌<◌}
 use native.Mathlib.Omega.{arith}
-use lib.ListN.{length, get_or, take}
+use lib.ListN.{length, take}
 use Rattle.rules.specs.Bag.{sum}
 use Rattle.rules.specs.Box.{Way, along, across}
 use Rattle.rules.specs.Job as rules
-use Rattle.rules.specs.Planner.{room_of}
 use Rattle.rules.proofs.Bags.{all_at}
 use Rattle.rules.proofs.Bridge.{join}
 use Rattle.rules.proofs.Classes.{turned}
@@ -20,26 +19,22 @@ use Rattle.shapes.specs.declared.Job.{Job}
 use Rattle.outline.specs.declared.Least.{Least}
 use Rattle.outline.specs.declared.Way as code
 use Rattle.outline.specs.declared.Way.TheVariants.{Beside, Above}
-use Rattle.outline.specs.Stands.{job_for, outline_of, way_of, LeastOf, least_by, two_bytes}
+use Rattle.outline.specs.Stands.{job_for, outline_of, way_of, number_of, side_of, least_by}
 use Rattle.outline.proofs.Laws.{types_count, least_of}
+use Rattle.arena.specs.declared.Record.{Record}
 use Rattle.arena.specs.Records.{record_at, link_at}
 use Rattle.classes.specs.Orders.{size_in, named_in}
 use Rattle.classes.specs.Directory.{end_link}
 use Rattle.classes.proofs.Laws.{class_kept, first_least, last_most}
-use Rattle.outlines.specs.Listing.{outlines_in, no_outline, Building, Ready, JoinIn}
+use Rattle.outlines.specs.Listing.{outlines_in, no_outline, Building, Ready}
 use Rattle.outlines.proofs.Lists.{mem_at}
 use Rattle.outlines.proofs.Laws.{length_outlines, outline_at_lem}
-use Rattle.outlines.specs.declared.Listed.{Listed}
-use Rattle.outlines.specs.declared.Listed.TheVariants.{Complete, Full}
+use Rattle.outlines.specs.declared.ArenaFull.{ArenaFull}
 use Rattle.growing.specs.Growing.{Growing, Came, Comes, pair_of}
-use Rattle.growing.specs.Rows.{number_of, side_of, OfClass, RowsWith, Rowsable, TooLarge}
-use Rattle.growing.proofs.Laws.{fits_side, came_self, comes_then, came_with}
+use Rattle.growing.specs.Rows.{TooLarge}
+use Rattle.growing.proofs.Laws.{fits_side, came_self, comes_then}
 use Rattle.growing.proofs.Rows.{join_stays, two_ways}
-use Rattle.pairing.specs.Pairs.{outline_at, key_at, AbleAt, Unable, Idle, Apart, Standing, TwoClasses, WaysWith, PairReady, PairIn}
-
-bool_cases : (b : Bool) → (b ≡ true) ⊎ (b ≡ false)
-bool_cases true = inl refl
-bool_cases false = inr refl
+use Rattle.pairing.specs.Pairs.{outline_at, key_at, Unable, Idle, Apart, Standing, TwoClasses, PairReady, WayIn, PairIn}
 
 -- sizes and sides by way, as the code numbers them
 size_way : (job : Job) (s : List ℕ) (i : ℕ) (w : code.Way) → size_by (way_of w) (outline_at job s i) ≡ size_in s (number_of w) i
@@ -49,15 +44,6 @@ size_way job s i Above = refl
 side_way : (job : Job) (w : code.Way) → side_by (way_of w) (job_for job) ≡ side_of job w
 side_way job Beside = refl
 side_way job Above = refl
-
--- the least size of a piece can be added to sizes
-pub least_small : {job : Job} {least : Least} → LeastOf job least → (w : Way) → least_by w least ≤ two_bytes
-least_small h along = h.long_small
-least_small h across = h.wide_small
-
--- what an order of the class names is a record of the arena
-pub named_room : {job : Job} {least : Least} {s : List ℕ} {a : ℕ} → Standing job least s a → (w k : ℕ) → w < 2 → a ≤ k → k < link_at s a end_link → named_in s w k < room_of (length s)
-named_room st w k two lo hi = omega (arith, ((st.class.orders w two).within k lo hi).1, st.class.ends, st.room)
 
 module _ {job : Job} {least : Least} {s : List ℕ} {a : ℕ} (st : Standing job least s a) (way : code.Way) where
   -- behind the smallest of the class there is no room for a piece
@@ -85,86 +71,61 @@ module _ {job : Job} {s : List ℕ} {n : ℕ} (r : Ready job s n) where
   pub key_length : (i : ℕ) → i < n → length (key_at job s i) ≡ job.count
   key_length i h = counts_length (build_at i h) ∙ types_count job r.range
 
--- the joins of two classes still stand where others come behind
-rows_stay : (job : Job) (w : Way) (s : List ℕ) (a b m : ℕ) (l d : List rules.Outline) → link_at s a end_link ≤ length l → link_at s b end_link ≤ length l → RowsWith job w s a b l → RowsWith job w s a b (l ++ d)
-rows_stay job w s a b m l d x y f i lo hi q qlo qhi = join_stays job w i q l d (omega arith) (omega arith) (f i lo hi q qlo qhi)
-
--- two classes, in one way and then in the other
-module _ {job : Job} {start n a b : ℕ} {s : List ℕ} (z : Rowsable job s start n a b) where
-  before_a : a < start
-  before_a = omega (arith, z.first.some, z.first.ends)
-
-  before_b : b < start
-  before_b = omega (arith, z.class.some, z.class.ends)
-
-  module _ {P : List rules.Outline → Type 0} {t : List ℕ} {m : ℕ} (g : Came job start (pair_of job s a b) P s n t m) where
-    key_stays : (i : ℕ) → i < start → key_at job t i ≡ key_at job s i
-    key_stays i h = ap (λ u. take job.count u.outline.counts) (g.kept.records i (omega (arith, z.growing.begins)))
-
-    same_pair : pair_of job t a b ≡ pair_of job s a b
-    same_pair = ap₂ rules.plus (key_stays a before_a) (key_stays b before_b)
-
-    pub second_way : Rowsable job t start m a b
-    second_way = record {
-      ready = record { range = z.ready.range; held = g.grown.held };
-      first = class_kept z.growing.directory z.growing.begins g.kept a z.first;
-      class = class_kept z.growing.directory z.growing.begins g.kept b z.class;
-      growing = subst (Growing job.count t start m) (sym same_pair) g.growing;
-    }
-
-  pub both_ways : (beside above : Bool) {t : List ℕ} {m : ℕ} (u : List ℕ) (r : Listed) → Came job start (pair_of job s a b) (λ l. beside ≡ true → RowsWith job along s a b l) s n t m → Comes job start (pair_of job t a b) (λ l. above ≡ true → RowsWith job across t a b l) t m u r → Comes job start (pair_of job s a b) (WaysWith job beside above s a b) s n u r
-  both_ways beside above {t} {m} u r g h =
-      let ea = g.kept.links a end_link before_a (omega arith) in
-      let eb = g.kept.links b end_link before_b (omega arith) in
-      let be = g.growing.begins in
-      let fa = z.first.ends in
-      let fb = z.class.ends in
-      comes_then job (λ l. above ≡ true → RowsWith job across t a b l) (WaysWith job beside above s a b) u
-      (λ l d e f k. (λ x. rows_stay job along s a b m l d (omega arith) (omega arith) (f x), λ x i lo hi q qlo qhi. k x i lo (omega arith) q qlo (omega arith)))
-      g r (subst (λ c. Comes job start c (λ l. above ≡ true → RowsWith job across t a b l) t m u r) (same_pair g) h)
-
 -- two classes of which no records need be tried in a way
 module _ {job : Job} {least : Least} {s : List ℕ} {a b : ℕ} (k : TwoClasses job least s a b) where
-  pub first_standing : Standing job least s a
-  first_standing = record { least_of = k.least_of; range = k.range; upto = k.facing.upto; room = k.facing.room; class = k.facing.first }
-
   pub apart_large : (way : code.Way) → TooLarge job way s a b → Apart job least s a b (way_of way)
   apart_large way z i lo hi q qlo qhi able x = omega (arith, z i lo hi q qlo qhi, fits_side job way job.count (record_at s i).outline (record_at s q).outline x)
 
-  pub apart_unable : (w : Way) → Unable job least s a w → Apart job least s a b w
-  apart_unable w f i lo hi q qlo qhi able x = f i lo hi able
+-- the joins of two classes still stand where others come behind
+way_stays : (job : Job) (least : Least) (w : Way) (s : List ℕ) (a b : ℕ) (l d : List rules.Outline) → link_at s a end_link ≤ length l → link_at s b end_link ≤ length l → WayIn job least s a b w l → WayIn job least s a b w (l ++ d)
+way_stays job least w s a b l d x y f i lo hi q qlo qhi able = join_stays job w i q l d (omega arith) (omega arith) (f i lo hi q qlo qhi able)
 
 -- two classes whose joins belong to the class that grows
 module _ {job : Job} {least : Least} {s : List ℕ} {start n a b : ℕ} (h : PairReady job least s start n a b) where
-  pub two_classes : TwoClasses job least s a b
-  two_classes = record { least_of = h.least_of; range = h.rows.ready.range; facing = record { upto = start; room = h.rows.growing.directory.room; first = h.rows.first; class = h.rows.class } }
+  before_a : a < start
+  before_a = omega (arith, h.rows.first.some, h.rows.first.ends)
 
+  before_b : b < start
+  before_b = omega (arith, h.rows.class.some, h.rows.class.ends)
+
+  -- in one way: none need be tried, or all are
+  pub way_none : (w : Way) → Apart job least s a b w → Came job start (pair_of job s a b) (WayIn job least s a b w) s n s n
+  way_none w f = came_self job h.rows.ready.held h.rows.growing (λ i lo hi q qlo qhi able k.
+      let be = h.rows.growing.begins in
+      let ei = outline_at_lem job.count s n i (omega (arith, h.rows.first.ends)) in
+      let eq = outline_at_lem job.count s n q (omega (arith, h.rows.class.ends)) in
+      absurd (f i lo hi q qlo qhi able (subst (rules.Fits (job_for job)) (ap₂ (join w) ei eq) k)))
+
+  -- and then in the other
   module _ {P : List rules.Outline → Type 0} {t : List ℕ} {m : ℕ} (g : Came job start (pair_of job s a b) P s n t m) where
-    outline_stays : (i : ℕ) → i < start → get_or (outlines_in job t m) i no_outline ≡ outline_at job s i
-    outline_stays i x =
-        let be = h.rows.growing.begins in
-        outline_at_lem job.count t m i (omega (arith, g.growing.begins)) ∙ ap (λ u. outline_of job.count u.outline) (g.kept.records i (omega arith))
+    same_record : (i : ℕ) → i < start → record_at t i ≡ record_at s i
+    same_record i x = g.kept.records i (omega (arith, h.rows.growing.begins))
 
-    -- nothing joins, so that there is nothing to be there
-    none_in : (w : Way) → Apart job least s a b w → OfClass s a (λ i. OfClass s b (λ q. AbleAt job least s i w → JoinIn job w i q (outlines_in job t m)))
-    none_in w f i lo hi q qlo qhi able k =
-        let ei = outline_stays i (omega (arith, h.rows.first.ends)) in
-        let eq = outline_stays q (omega (arith, h.rows.class.ends)) in
-        absurd (f i lo hi q qlo qhi able (subst (rules.Fits (job_for job)) (ap₂ (join w) ei eq) k))
+    same_pair : pair_of job t a b ≡ pair_of job s a b
+    same_pair = ap₂ (λ (u v : Record). rules.plus (take job.count u.outline.counts) (take job.count v.outline.counts)) (same_record a before_a) (same_record b before_b)
 
-  pair_in : (beside above : Bool) → (beside ≡ false → Apart job least s a b along) → (above ≡ false → Apart job least s a b across) → {t : List ℕ} {m : ℕ} → Came job start (pair_of job s a b) (WaysWith job beside above s a b) s n t m → Came job start (pair_of job s a b) (PairIn job least s a b) s n t m
-  pair_in beside above f g {t} {m} w = came_with job w (λ v. by v (bool_cases beside) (bool_cases above))
+    pub second_way : PairReady job least t start m a b
+    second_way = record {
+      least_of = h.least_of;
+      rows = record {
+        ready = record { range = h.rows.ready.range; held = g.grown.held };
+        first = class_kept h.rows.growing.directory h.rows.growing.begins g.kept a h.rows.first;
+        class = class_kept h.rows.growing.directory h.rows.growing.begins g.kept b h.rows.class;
+        growing = subst (Growing job.count t start m) (sym same_pair) g.growing;
+      };
+    }
+
+  pub both_ways : {t : List ℕ} {m : ℕ} (u : List ℕ) (r : Result ℕ ArenaFull) → Came job start (pair_of job s a b) (WayIn job least s a b along) s n t m → Comes job start (pair_of job t a b) (WayIn job least t a b across) t m u r → Comes job start (pair_of job s a b) (PairIn job least s a b) s n u r
+  both_ways {t} {m} u r g k =
+      comes_then job (WayIn job least t a b across) (PairIn job least s a b) u (λ l d e f x w. in_way l d e f x w) g r
+      (subst (λ c. Comes job start c (WayIn job least t a b across) t m u r) (same_pair g) k)
     where
-      by : (v : Way) → (beside ≡ true) ⊎ (beside ≡ false) → (above ≡ true) ⊎ (above ≡ false) → OfClass s a (λ i. OfClass s b (λ q. AbleAt job least s i v → JoinIn job v i q (outlines_in job t m)))
-      by along (inl z) _ = λ i lo hi q qlo qhi able. w.grown.has.0 z i lo hi q qlo qhi
-      by along (inr z) _ = none_in w along (f z)
-      by across _ (inl z) = λ i lo hi q qlo qhi able. w.grown.has.1 z i lo hi q qlo qhi
-      by across _ (inr z) = none_in w across (g z)
-
-  -- in neither way
-  pub pair_none : Apart job least s a b along → Apart job least s a b across → Came job start (pair_of job s a b) (PairIn job least s a b) s n s n
-  pair_none f g = pair_in false false (λ _. f) (λ _. g) (came_self job h.rows.ready.held h.rows.growing (λ x. absurd (true≢false (sym x)), λ x. absurd (true≢false (sym x))))
-
-  pub pair_ways : (beside above : Bool) → (beside ≡ false → Apart job least s a b along) → (above ≡ false → Apart job least s a b across) → (t : List ℕ) (r : Listed) → Comes job start (pair_of job s a b) (WaysWith job beside above s a b) s n t r → Comes job start (pair_of job s a b) (PairIn job least s a b) s n t r
-  pair_ways beside above f g t (Complete m) w = pair_in beside above f g w
-  pair_ways beside above f g t Full w = w
+      in_way : (l d : List rules.Outline) → length l ≡ m → WayIn job least s a b along l → WayIn job least t a b across (l ++ d) → (w : Way) → WayIn job least s a b w (l ++ d)
+      in_way l d e f x along =
+          let be = g.growing.begins in
+          way_stays job least along s a b l d (omega (arith, h.rows.first.ends)) (omega (arith, h.rows.class.ends)) f
+      in_way l d e f x across = λ i lo hi q qlo qhi able.
+          let ea = g.kept.links a end_link before_a (omega arith) in
+          let eb = g.kept.links b end_link before_b (omega arith) in
+          x i lo (omega arith) q qlo (omega arith)
+          (subst (λ (v : Record). Able (λ v. least_by v least) (turned across) (outline_of job.count v.outline)) (sym (same_record g i (omega (arith, h.rows.first.ends)))) able)

@@ -1,6 +1,6 @@
 -- Two classes whose joins belong to a class that grows. Assumes nothing.
-use Rattle.std.specs.Prelude.{◌≡◌, Bool, true, List, ℕ, ◌≤◌, length}
-use Rattle.rules.specs.Box.{Way, along, across}
+use Rattle.std.specs.Prelude.{List, ℕ, ◌≤◌, length}
+use Rattle.rules.specs.Box.{Way}
 use Rattle.rules.specs.Job as rules
 use Rattle.rules.specs.Planner.{room_of}
 use Rattle.rules.proofs.Bridge.{join}
@@ -13,7 +13,7 @@ use Rattle.outline.specs.Stands.{job_for, outline_of, LeastOf, least_by}
 use Rattle.arena.specs.Records.{record_at}
 use Rattle.classes.specs.Directory.{counts_at, Class}
 use Rattle.outlines.specs.Listing.{Building, JoinIn}
-use Rattle.growing.specs.Rows.{OfClass, RowsWith, Rowsable, Facing}
+use Rattle.growing.specs.Rows.{OfClass, Rowsable, Facing}
 
 -- the outline of record i, and its counts
 abbrev pub outline_at : Job → List ℕ → ℕ → rules.Outline
@@ -55,15 +55,14 @@ pub record TwoClasses (job : Job) (least : Least) (s : List ℕ) (a b : ℕ) : T
   pub range : JobInRange job
   pub facing : Facing job s a b
 
--- classes a and b joined in the ways that can be
-abbrev pub WaysWith : Job → (beside above : Bool) → List ℕ → (a b : ℕ) → List rules.Outline → Type 0
-WaysWith job beside above s a b l = (beside ≡ true → RowsWith job along s a b l) × (above ≡ true → RowsWith job across s a b l)
-
 -- two classes whose joins belong to the class that grows
 pub record PairReady (job : Job) (least : Least) (s : List ℕ) (start n a b : ℕ) : Type 0 where
   pub least_of : LeastOf job least
   pub rows : Rowsable job s start n a b
 
--- the joins, in both ways, of each record of class a that may be a first half with each of class b
+-- the joins in a way, and in both ways, of each record of class a that may be a first half with each of class b
+abbrev pub WayIn : Job → Least → List ℕ → (a b : ℕ) → Way → List rules.Outline → Type 0
+WayIn job least s a b w l = OfClass s a (λ i. OfClass s b (λ q. AbleAt job least s i w → JoinIn job w i q l))
+
 abbrev pub PairIn : Job → Least → List ℕ → (a b : ℕ) → List rules.Outline → Type 0
-PairIn job least s a b l = (w : Way) → OfClass s a (λ i. OfClass s b (λ q. AbleAt job least s i w → JoinIn job w i q l))
+PairIn job least s a b l = (w : Way) → WayIn job least s a b w l

@@ -3,50 +3,26 @@
 // that no other need be tried is a theorem of the rules, and here it is told by sizes.
 #![tactic(auto)]
 
-ghost use Rattle.std.specs.Prelude.{◌≡◌, true, false};
+ghost use Rattle.std.specs.Prelude.{◌≡◌, false};
 ghost use Rattle.rules.specs.Box.{along, across};
-ghost use Rattle.rules.proofs.Classes.{turned};
-ghost use Rattle.outline.specs.Stands.{way_of, least_by};
+ghost use Rattle.outline.specs.Stands.{way_of};
 ghost use Rattle.growing.specs.Growing.{Comes, pair_of};
-ghost use Rattle.growing.specs.Rows.{Rowsable, RowsWith};
-ghost use Rattle.pairing.specs.Pairs.{Unable, Idle, Standing, WaysWith, TwoClasses, Apart, PairReady, PairIn};
+ghost use Rattle.pairing.specs.Pairs.{Unable, Idle, Standing, TwoClasses, Apart, PairReady, WayIn, PairIn};
 
 use outline::{Least, Way};
-use outlines::Listed;
+use outlines::ArenaFull;
 use shapes::Job;
-
-// The least size of a piece in a way.
-fn least_of(least: Least, way: Way) -> u64
-    ensures { result ≡ least_by (way_of way) least }
-{
-    match way {
-        Way::Beside => least.length,
-        Way::Above => least.width,
-    }
-}
-
-fn other(way: Way) -> Way
-    ensures { way_of result ≡ turned (way_of way) }
-{
-    match way {
-        Way::Beside => Way::Above,
-        Way::Above => Way::Beside,
-    }
-}
 
 // False if no record of class a ends in a join in the other way, so that in this way each is another's first half.
 fn may_begin(job: Job, arena: &[u8], a: usize, least: Least, way: Way) -> bool
     requires { Standing job least arena.now a }
     ensures { result ≡ false → Unable job least arena.now a (way_of way) }
 {
-    let turned = other(way);
-    let v = growing::number_of(turned);
+    let turned = way.turned();
+    let v = turned.number();
     let last = classes::end_of(arena, a) - 1;
     let largest = arena::size_at(arena, arena::link_at(arena, last, v), v);
-    if 2 * least_of(least, turned) <= largest {
-        return true;
-    }
-    arena::pieces_at(arena, a, job.count as usize) == 1
+    2 * least.in_way(turned) <= largest || arena::pieces_at(arena, a, job.count as usize) == 1
 }
 
 // False if nothing of class a need be tried as a first half in this way: the sheet has no room for a piece behind its smallest, or each is another's.
@@ -54,12 +30,9 @@ fn can_join(job: Job, arena: &[u8], a: usize, least: Least, way: Way) -> bool
     requires { Standing job least arena.now a }
     ensures { result ≡ false → Idle job least arena.now a (way_of way) }
 {
-    let w = growing::number_of(way);
+    let w = way.number();
     let smallest = arena::size_at(arena, arena::link_at(arena, a, w), w);
-    if growing::side_of(job, way) < smallest + least_of(least, way) {
-        return false;
-    }
-    may_begin(job, arena, a, least, way)
+    smallest + least.in_way(way) <= way.side(job) && may_begin(job, arena, a, least, way)
 }
 
 // False if nothing of class a need be tried as a first half.
@@ -67,10 +40,7 @@ pub fn joins(job: Job, arena: &[u8], a: usize, least: Least) -> bool
     requires { Standing job least arena.now a }
     ensures { result ≡ false → Idle job least arena.now a along × Idle job least arena.now a across }
 {
-    if can_join(job, arena, a, least, Way::Beside) {
-        return true;
-    }
-    can_join(job, arena, a, least, Way::Above)
+    can_join(job, arena, a, least, Way::Beside) || can_join(job, arena, a, least, Way::Above)
 }
 
 // False if no record of class a need be tried with one of class b in this way. Most pairs are too large, which is told before anything else.
@@ -78,52 +48,27 @@ fn may_join(job: Job, arena: &[u8], a: usize, b: usize, least: Least, way: Way) 
     requires { TwoClasses job least arena.now a b }
     ensures { result ≡ false → Apart job least arena.now a b (way_of way) }
 {
-    if growing::smallest_fit(job, arena, a, b, way) {
-        return may_begin(job, arena, a, least, way);
-    }
-    false
+    growing::smallest_fit(job, arena, a, b, way) && may_begin(job, arena, a, least, way)
 }
 
-// Joins classes a and b in the second way, if it can be.
-fn add_above(
-    above: bool,
+// Joins classes a and b, whose counts add up to the class's, in this way, if any need be tried in it.
+fn add_way(
     job: Job,
     arena: &mut [u8],
     start: usize,
     n: usize,
     a: usize,
     b: usize,
-) -> Listed
-    requires { Rowsable job arena.old start n a b }
-    ensures { Comes job start (pair_of job arena.old a b) (λ l. above ≡ true → RowsWith job across arena.old a b l) arena.old n arena.new result }
+    least: Least,
+    way: Way,
+) -> Result<usize, ArenaFull>
+    requires { PairReady job least arena.old start n a b }
+    ensures { Comes job start (pair_of job arena.old a b) (WayIn job least arena.old a b (way_of way)) arena.old n arena.new result }
 {
-    if above {
-        return growing::add_rows(job, arena, start, n, a, b, Way::Above);
+    if may_join(job, arena, a, b, least, way) {
+        return growing::add_rows(job, arena, start, n, a, b, way);
     }
-    Listed::Complete(n)
-}
-
-// Joins classes a and b in the ways that can be.
-fn add_ways(
-    beside: bool,
-    above: bool,
-    job: Job,
-    arena: &mut [u8],
-    start: usize,
-    n: usize,
-    a: usize,
-    b: usize,
-) -> Listed
-    requires { Rowsable job arena.old start n a b }
-    ensures { Comes job start (pair_of job arena.old a b) (WaysWith job beside above arena.old a b) arena.old n arena.new result }
-{
-    if !beside {
-        return add_above(above, job, arena, start, n, a, b);
-    }
-    match growing::add_rows(job, arena, start, n, a, b, Way::Beside) {
-        Listed::Full => Listed::Full,
-        Listed::Complete(m) => add_above(above, job, arena, start, m, a, b),
-    }
+    Ok(n)
 }
 
 // Joins classes a and b, whose counts add up to the class's, in the ways that need be tried.
@@ -135,16 +80,10 @@ pub fn add_pair(
     a: usize,
     b: usize,
     least: Least,
-) -> Listed
+) -> Result<usize, ArenaFull>
     requires { PairReady job least arena.old start n a b }
     ensures { Comes job start (pair_of job arena.old a b) (PairIn job least arena.old a b) arena.old n arena.new result }
 {
-    let beside = may_join(job, arena, a, b, least, Way::Beside);
-    let above = may_join(job, arena, a, b, least, Way::Above);
-    if !beside {
-        if !above {
-            return Listed::Complete(n);
-        }
-    }
-    add_ways(beside, above, job, arena, start, n, a, b)
+    let beside = add_way(job, arena, start, n, a, b, least, Way::Beside)?;
+    add_way(job, arena, start, beside, a, b, least, Way::Above)
 }

@@ -1,5 +1,4 @@
 -- The laws behind the proofs of the functions.
-pub mod Lines
-pub mod Settling
+pub mod Spans
 pub mod Sweeping
 pub mod Turns

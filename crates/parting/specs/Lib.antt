@@ -1,2 +1,2 @@
--- What parting asks of boxes as flat numbers, and what it answers.
+-- What parting asks of boxes by their lines, and what it answers.
 pub mod Region

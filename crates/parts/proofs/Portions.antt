@@ -1,6 +1,5 @@
 -- A part of counts goes up in one count, or begins again there; and so it comes to the part behind it. Assumes nothing.
 use mathlib.Core.Path.{◌≡◌, refl, sym, ap, ◌∙◌, subst}
-use mathlib.Core.Bool.{true, false, true≢false}
 use mathlib.Core.Logic.{◌⊎◌, inl, inr}
 use mathlib.Core.List.{List, [], ◌∷◌}
 use Prim.Native.Nat.{ℕ, zero, suc, ◌+◌, ◌*◌, ◌-◌, ◌/◌, ◌≤◌, ◌<◌}
@@ -13,6 +12,7 @@ use Rattle.rules.specs.Limits.{types_most}
 use Rattle.tally.specs.Bounds.{counts_most}
 use Rattle.weighing.specs.Weights.{weight_most, weight_of, weighed}
 use Rattle.weighing.proofs.Laws.{weighed_set, weighed_most}
+use Rattle.std.specs.Prelude.{Some, None}
 use Rattle.parts.specs.declared.Step.{Step}
 use Rattle.parts.specs.Parts.{digit, Portion, PortionOf, Risen, Stuck, Stepped}
 use Rattle.parts.proofs.Parts.{stuck_full, stuck_spare}
@@ -85,17 +85,13 @@ module _ {types : ℕ} {c : List ℕ} {p : Portion} (h : PortionOf types c p) (f
             omega (arith, ap (digit (set p.part t v)) z, ap (digit (set p.rest t w)) z, ap (digit c) z, get_or-set_same p.part t v 0 (omega (arith, h.long)), get_or-set_same p.rest t w 0 (omega (arith, h.long_rest)))
         go (no z) = omega (arith, h.adds k l, get_or-set_other p.part t k v 0 z, get_or-set_other p.rest t k w 0 z)
 
-    -- a piece that is left can be had
-    pub below_end : 0 < digit p.rest t → digit p.part t < digit c t
-    below_end l = omega (arith, h.adds t among)
-
     -- what the count weighs is part of the weight
     pub count_weighs : digit p.part t * weight_of t ≤ p.weight
     count_weighs = omega (arith, weight_set 0)
 
     -- the count begins again
-    pub began : (n w v : ℕ) → n ≡ digit p.part t → w ≡ weight_of t → v ≡ digit c t → PortionOf types c (record { part = set p.part t 0; rest = set p.rest t v; weight = p.weight - n * w; spare = p.spare + n })
-    began n w v en ew ev =
+    pub began : (n m w v : ℕ) → n ≡ digit p.part t → m ≡ digit p.part t → w ≡ weight_of t → v ≡ digit c t → PortionOf types c (record { part = set p.part t 0; rest = set p.rest t v; weight = p.weight - n * w; spare = p.spare + m })
+    began n m w v en em ew ev =
         let z : n * w ≡ digit p.part t * weight_of t = λ i. en i * ew i in
         record {
           long = simp length-set h.long;
@@ -141,10 +137,10 @@ module _ {types : ℕ} {c d : List ℕ} {q : Portion} {i : ℕ} (t : Turning typ
         (λ j a b. get_or-take types q.part j 0 b ∙ t.same j a) (omega (arith, t.of.spares))
     now_stuck (inr z) = stuck_full c d more (omega (arith, t.of.adds i more, t.same i (omega arith)))
 
-    turning_more : Stuck types c d i → (n w v : ℕ) → n ≡ digit q.part i → w ≡ weight_of i → v ≡ digit c i → Turning types c d (record { part = set q.part i 0; rest = set q.rest i v; weight = q.weight - n * w; spare = q.spare + n }) (i + 1)
-    turning_more z n w v en ew ev = record {
+    turning_more : Stuck types c d i → (n m w v : ℕ) → n ≡ digit q.part i → m ≡ digit q.part i → w ≡ weight_of i → v ≡ digit c i → Turning types c d (record { part = set q.part i 0; rest = set q.rest i v; weight = q.weight - n * w; spare = q.spare + m }) (i + 1)
+    turning_more z n m w v en em ew ev = record {
       upto = omega arith;
-      of = began t.of few i more n w v en ew ev;
+      of = began t.of few i more n m w v en em ew ev;
       stuck = λ k l. before k l (ℕ_discrete k i);
       again = λ k l. zeros k l (ℕ_discrete k i);
       same = λ k l. get_or-set_other q.part i k 0 0 (λ e. omega arith) ∙ t.same k (omega arith);
@@ -159,25 +155,24 @@ module _ {types : ℕ} {c d : List ℕ} {q : Portion} {i : ℕ} (t : Turning typ
         zeros k l (no e) = get_or-set_other q.part i k 0 0 e ∙ t.again k (omega arith)
 
     -- the same, where it was written
-    pub turning_again : Stuck types c d i → {part rest : List ℕ} (n w v : ℕ) → n ≡ digit q.part i → w ≡ weight_of i → v ≡ digit c i → part ≡ set q.part i 0 → rest ≡ set q.rest i v → Turning types c d (record { part = part; rest = rest; weight = q.weight - n * w; spare = q.spare + n }) (i + 1)
-    turning_again z {part} {rest} n w v en ew ev ep er =
-        subst (λ x. Turning types c d (record { part = x; rest = rest; weight = q.weight - n * w; spare = q.spare + n }) (i + 1)) (sym ep)
-        (subst (λ x. Turning types c d (record { part = set q.part i 0; rest = x; weight = q.weight - n * w; spare = q.spare + n }) (i + 1)) (sym er) (turning_more z n w v en ew ev))
+    pub turning_again : Stuck types c d i → {part rest : List ℕ} (n m w v : ℕ) → n ≡ digit q.part i → m ≡ digit q.part i → w ≡ weight_of i → v ≡ digit c i → part ≡ set q.part i 0 → rest ≡ set q.rest i v → Turning types c d (record { part = part; rest = rest; weight = q.weight - n * w; spare = q.spare + m }) (i + 1)
+    turning_again z {part} {rest} n m w v en em ew ev ep er =
+        subst (λ x. Turning types c d (record { part = x; rest = rest; weight = q.weight - n * w; spare = q.spare + m }) (i + 1)) (sym ep)
+        (subst (λ x. Turning types c d (record { part = set q.part i 0; rest = x; weight = q.weight - n * w; spare = q.spare + m }) (i + 1)) (sym er) (turning_more z n m w v en em ew ev))
 
-    pub turning_up : {part rest : List ℕ} → Risen i q.part q.rest part rest → (r : Step) → 0 < q.spare → 0 < digit q.rest i → r.weight ≡ q.weight + weight_of i → r.spare ≡ q.spare - 1 → r.more ≡ true → Stepped types c d part rest r
-    turning_up {part} {rest} u r s l ew es em =
+    pub turning_up : {part rest : List ℕ} → Risen i q.part q.rest part rest → (r : Step) → 0 < q.spare → 0 < digit q.rest i → r.weight ≡ q.weight + weight_of i → r.spare ≡ q.spare - 1 → Stepped types c d part rest (Some r)
+    turning_up {part} {rest} u r s l ew es =
         let o = risen t.of few i more (weight_of i) refl s l in
-        let x : suc (digit q.part i) ≡ suc (digit d i) = ap suc (t.same i (omega arith)) in
-        record {
-          of = record {
+        let x : suc (digit q.part i) ≡ suc (digit d i) = ap suc (t.same i (omega arith)) in (
+          record {
             long = ap length u.up ∙ o.long;
             long_rest = ap length u.down ∙ o.long_rest;
             adds = λ k m. omega (arith, ap (λ v. digit v k) u.up, ap (λ v. digit v k) u.down, o.adds k m);
             weighs = ew ∙ o.weighs ∙ ap (λ v. weighed 0 (take types v)) (sym u.up);
             spares = omega (arith, es, ap (λ v. sum (take types v)) u.up, o.spares);
             small = o.small;
-          };
-          yes_if = λ _. record {
+          },
+          record {
             at = i;
             among = more;
             byte = omega (arith, u.byte, t.same i (omega arith));
@@ -185,10 +180,9 @@ module _ {types : ℕ} {c d : List ℕ} {q : Portion} {i : ℕ} (t : Turning typ
             stuck = t.stuck;
             again = λ k m. ap (λ v. digit v k) u.up ∙ get_or-set_other q.part i k (suc (digit q.part i)) 0 (λ e. omega arith) ∙ t.again k m;
             stays = λ k m n. ap (λ v. digit v k) u.up ∙ get_or-set_other q.part i k (suc (digit q.part i)) 0 (λ e. omega arith) ∙ t.same k (omega arith);
-          };
-          no_if = λ e. absurd (true≢false (sym em ∙ e));
-        }
+          },
+        )
 
   -- no count could go up
-  pub turning_end : types ≤ i → Stepped types c d q.part q.rest (record { weight = q.weight; spare = q.spare; more = false })
-  turning_end l = record { of = t.of; yes_if = λ e. absurd (true≢false (sym e)); no_if = λ _ k m. t.stuck k (omega arith) }
+  pub turning_end : types ≤ i → Stepped types c d q.part q.rest None
+  turning_end l = ((record { weight = q.weight; spare = q.spare }, t.of), λ k m. t.stuck k (omega arith))

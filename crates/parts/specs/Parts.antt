@@ -1,5 +1,5 @@
 -- The parts of counts with at most half of the pieces, as an odometer goes through them. Assumes nothing.
-use Rattle.std.specs.Prelude.{◌≡◌, Bool, true, false, ◌⊎◌, List, [], ◌∷◌, ℕ, suc, ◌+◌, ◌-◌, ◌*◌, ◌/◌, ◌≤◌, ◌<◌, length, get_or, set, take}
+use Rattle.std.specs.Prelude.{◌≡◌, Option, Some, None, List, [], ◌∷◌, ℕ, suc, ◌+◌, ◌-◌, ◌*◌, ◌/◌, ◌≤◌, ◌<◌, length, get_or, set, take}
 use Rattle.rules.specs.Bag.{sum}
 use Rattle.rules.specs.Limits.{types_most}
 use Rattle.tally.specs.Bounds.{counts_most}
@@ -32,11 +32,6 @@ pub record PortionOf (types : ℕ) (c : List ℕ) (p : Portion) : Type 0 where
   pub spares : p.spare + sum (take types p.part) ≡ half_of types c
   pub small : sum (take types c) ≤ counts_most
 
--- whether a part may have a piece more of a type
-pub record MayRise (spare left : ℕ) (r : Bool) : Type 0 where
-  pub yes_if : r ≡ true → (0 < spare) × (0 < left)
-  pub no_if : r ≡ false → (spare ≡ 0) ⊎ (left ≡ 0)
-
 -- one piece of a type goes from the rest to the part
 pub record Risen (t : ℕ) (part rest part2 rest2 : List ℕ) : Type 0 where
   pub up : part2 ≡ set part t (suc (digit part t))
@@ -63,11 +58,10 @@ pub record Behind (types : ℕ) (c d e : List ℕ) : Type 0 where
   pub again : (k : ℕ) → k < at → digit e k ≡ 0
   pub stays : (k : ℕ) → at < k → k < types → digit e k ≡ digit d k
 
--- the part behind, and its rest; or that there is none
-pub record Stepped (types : ℕ) (c d part rest : List ℕ) (r : Step) : Type 0 where
-  pub of : PortionOf types c (portion part rest r)
-  pub yes_if : r.more ≡ true → Behind types c d part
-  pub no_if : r.more ≡ false → (k : ℕ) → k < types → Stuck types c d k
+-- the part behind, and its rest; or that there is none, and what is there is a part all the same
+abbrev pub Stepped : (types : ℕ) (c d part rest : List ℕ) → Option Step → Type 0
+Stepped types c d part rest (Some s) = PortionOf types c (portion part rest s) × Behind types c d part
+Stepped types c d part rest None = ((s : Step) × PortionOf types c (portion part rest s)) × ((k : ℕ) → k < types → Stuck types c d k)
 
 -- x comes before d: the last count in which they differ is less
 pub record Earlier (types : ℕ) (x d : List ℕ) : Type 0 where

@@ -3,44 +3,27 @@
 // It promises that no such part is passed over.
 #![tactic(auto)]
 
-ghost use Rattle.std.specs.Prelude.{◌≡◌, ℕ, suc, ◌+◌, ◌*◌, ◌≤◌, ◌<◌, leb, set, take};
+ghost use Rattle.std.specs.Prelude.{◌≡◌, ◌≤◌, ◌<◌, leb, set, take};
 ghost use Rattle.rules.specs.Limits.{types_most, records_most};
-ghost use Rattle.parts.specs.Parts.{digit, portion, PortionOf, MayRise, Risen, Stepped, parts_of};
+ghost use Rattle.tally.specs.Bounds.{byte_most};
+ghost use Rattle.parts.specs.Parts.{digit, portion, PortionOf, Risen, Stepped, parts_of};
 
 use shapes::TYPES_MOST;
 
-// What a part weighs, how many pieces more it may have, and whether it is one, or all have been.
-#[derive(Clone, Copy)]
+// What a part weighs, and how many pieces more it may have.
+#[derive(Clone, Copy, Debug, PartialEq, Eq)]
 pub struct Step {
     pub weight: u64,
     pub spare: usize,
-    pub more: bool,
 }
 
-// A part that may have so many pieces more may have one of a type of which so many are left.
-fn may_rise(spare: usize, left: u8) -> bool
-    ensures { MayRise spare left result }
-{
-    if spare == 0 {
-        return false;
-    }
-    left > 0
-}
-
-fn up(count: u8, end: u8) -> u8
-    requires { count < end }
-    ensures { (result ≡ count + 1) × (result ≤ end) }
-{
-    count + 1
-}
-
-// One piece more of type t, of which so many are wanted.
-fn rise(part: &mut [u8; TYPES_MOST], rest: &mut [u8; TYPES_MOST], t: usize, count: u8)
-    requires { (t < types_most) × (digit part.old t < count) × (0 < digit rest.old t) }
+// One piece more of type t.
+fn rise(part: &mut [u8; TYPES_MOST], rest: &mut [u8; TYPES_MOST], t: usize)
+    requires { (t < types_most) × (digit part.old t < byte_most) × (0 < digit rest.old t) }
     ensures { Risen t part.old rest.old part.new rest.new }
 {
-    part[t] = up(part[t], count);
-    rest[t] = rest[t] - 1;
+    part[t] += 1;
+    rest[t] -= 1;
 }
 
 // No piece of type t: all of them are left.
@@ -52,52 +35,37 @@ fn begin_again(part: &mut [u8; TYPES_MOST], rest: &mut [u8; TYPES_MOST], t: usiz
     rest[t] = count;
 }
 
-// The part behind a part of these counts, in its place, and its rest: the first count that may go up goes up, and those before it begin again.
+// The part behind a part of these counts, in its place, and its rest: the first count that may go up goes up, and those before it begin again. None when no count may: all parts have been.
+// The part and its rest stand in two arrays, in their place: by value, as a struct, they took nearly half of the planner's time (docs/DECISIONS.md, 32).
 pub fn next(
     part: &mut [u8; TYPES_MOST],
     rest: &mut [u8; TYPES_MOST],
     counts: [u8; TYPES_MOST],
     types: usize,
     from: Step,
-) -> Step
+) -> Option<Step>
     requires { PortionOf types counts (portion part.old rest.old from) × (types ≤ types_most) }
     ensures { Stepped types counts part.old part.new rest.new result }
 {
     let mut weight = from.weight;
     let mut spare = from.spare;
     let mut next = weighing::FIRST_WEIGHT;
-    let mut i = 0;
-    while i < types {
-        let at = i;
-        i += 1;
+    for i in 0..types {
         let each = next;
         next = weighing::next_weight(each);
-        if may_rise(spare, rest[at]) {
-            rise(part, rest, at, counts[at]);
-            return Step {
+        let left = rest[i];
+        if spare > 0 && left > 0 {
+            rise(part, rest, i);
+            return Some(Step {
                 weight: weight + each,
                 spare: spare - 1,
-                more: true,
-            };
+            });
         }
-        let count = tally::wide(part[at]);
-        weight -= count * each;
-        spare += count as usize;
-        begin_again(part, rest, at, counts[at]);
+        weight -= u64::from(part[i]) * each;
+        spare += usize::from(part[i]);
+        begin_again(part, rest, i, counts[i]);
     }
-    Step {
-        weight,
-        spare,
-        more: false,
-    }
-}
-
-// One type more: so many counts more.
-fn times(r: usize, count: u8) -> usize
-    requires { r ≤ records_most }
-    ensures { result ≡ r * suc count }
-{
-    r * (tally::wide(count) as usize + 1)
+    None
 }
 
 // These counts have no more than so many parts, their own and the part of nothing among them.
@@ -106,14 +74,11 @@ pub fn are_few(counts: [u8; TYPES_MOST], types: usize, most: usize) -> bool
     ensures { result ≡ leb (parts_of (take types counts)) most }
 {
     let mut r = 1;
-    let mut i = 0;
-    while i < types {
+    for i in 0..types {
         if most < r {
             return false;
         }
-        let at = i;
-        i += 1;
-        r = times(r, counts[at]);
+        r *= usize::from(counts[i]) + 1;
     }
     r <= most
 }

@@ -2,12 +2,13 @@
 use mathlib.Core.Path.{◌≡◌, refl, sym, ap, ◌∙◌}
 use mathlib.Core.Bool.{true, false}
 use mathlib.Core.List.{List}
-use Prim.Native.Nat.{ℕ, zero, suc, ◌+◌, ◌-◌, ◌≤◌, ◌<◌}
+use Prim.Native.Nat.{ℕ, suc, ◌+◌, ◌-◌, ◌≤◌, ◌<◌}
 use native.Mathlib.Omega.{arith}
 use native.Mathlib.Numerals.{add-one}
 use native.Mathlib.Decide.{ℕ_discrete}
-use lib.ListN.{length, get_or, set, replicate, length-set}
+use lib.ListN.{length, get_or, set, length-set}
 use lib.Seq.{get_or-set_same, get_or-set_other}
+use Rattle.std.specs.Prelude.{Some}
 use lib.Dec.{eqb}
 use borrow.Author.Tests.{le-leb, lt-leb, eq-eqb, ne_eqb}
 use Rattle.rules.specs.Limits.{types_most}
@@ -21,8 +22,7 @@ use Rattle.shapes.specs.declared.Job.{Job}
 use Rattle.shapes.specs.declared.PieceType as declared
 use Rattle.shapes.specs.declared.Placement.{Placement}
 use Rattle.placing.specs.Place.{entry_at, FirstAt, OfJob, TypeOf}
-use Rattle.placing.specs.declared.Place.TheVariants.{At}
-use Rattle.placing.proofs.Seeking.{earlier, Seeking, seek_start, seek_next, seek_found}
+use Rattle.placing.proofs.Seeking.{earlier, Seeking, seek_next, seek_found}
 
 -- how many of the first i entries are of type t
 abbrev had : List ℕ → ℕ → ℕ → ℕ
@@ -33,14 +33,6 @@ pub record Counting (j : Job) (flat counts : List ℕ) (i : ℕ) : Type 0 where
   pub long : length counts ≡ types_most
   pub held : (k : ℕ) → k < types_most → get_or counts k 0 ≡ had flat i (suc k)
 
-zero_at : (n k : ℕ) → ◌≡◌ {A = ℕ} (get_or (replicate n 0) k 0) 0
-zero_at zero k = refl
-zero_at (suc n) zero = refl
-zero_at (suc n) (suc k) = zero_at n k
-
-pub counting_start : (j : Job) (flat : List ℕ) → Counting j flat (replicate types_most 0) 0
-counting_start j flat = record { seeking = seek_start (above_demand (numbers_of j)) flat; long = refl; held = λ k h. zero_at types_most k }
-
 module _ {j : Job} {flat counts : List ℕ} {i : ℕ} (g : Counting j flat counts i) (h : i < slots_of (length flat)) (p : Placement) (at : entry_of p ≡ entry_at flat i) (o : OfJob j p.kind) (t : declared.PieceType) (is : TypeOf j p.kind t) where
   pub have_is : get_or counts (p.kind - 1) 0 ≡ had flat i p.kind
   have_is =
@@ -50,7 +42,7 @@ module _ {j : Job} {flat counts : List ℕ} {i : ℕ} (g : Counting j flat count
   demand_is : t.demand ≡ (of_type no_type (numbers_of j).types p.kind).demand
   demand_is = ap (λ (q : PieceType). q.demand) is.is
 
-  pub counting_found : t.demand ≤ get_or counts (p.kind - 1) 0 → FirstAt (above_demand (numbers_of j)) flat (At i)
+  pub counting_found : t.demand ≤ get_or counts (p.kind - 1) 0 → FirstAt (above_demand (numbers_of j)) flat (Some i)
   counting_found l = seek_found g.seeking h at {r = true} (sym (le-leb (of_type no_type (numbers_of j).types p.kind).demand (had flat i p.kind) (omega (arith, have_is, demand_is)))) refl
 
   pub counting_next : get_or counts (p.kind - 1) 0 < t.demand → Counting j flat (set counts (p.kind - 1) (get_or counts (p.kind - 1) 0 + 1)) (i + 1)

@@ -1,7 +1,6 @@
 -- The laws behind the proofs of the functions.
 pub mod Entries
 pub mod Types
-pub mod Tests
 pub mod Seeking
 pub mod Counting
 pub mod Summing

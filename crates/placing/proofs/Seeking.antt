@@ -2,6 +2,7 @@
 use mathlib.Core.Path.{◌≡◌, refl, sym, ap, ◌∙◌}
 use mathlib.Core.Bool.{Bool, true, false}
 use mathlib.Core.Option.{Option, some}
+use Rattle.std.specs.Prelude.{Some, None}
 use mathlib.Core.List.{List, [], ◌∷◌}
 use Prim.Native.Nat.{ℕ, zero, suc, ◌+◌, ◌≤◌, ◌<◌}
 use native.Mathlib.Omega.{arith}
@@ -11,8 +12,8 @@ use lib.Seq.{drop-cons}
 use Rattle.rules.specs.Numbers.{Entry, entries}
 use Rattle.rules.specs.Planner.{slots_of}
 use Rattle.rules.specs.Checker.{first_place}
-use Rattle.placing.specs.Place.{no_entry, entry_at, FirstAt}
-use Rattle.placing.specs.declared.Place.TheVariants.{At, Nowhere}
+use Rattle.shapes.specs.declared.Placement.{Placement}
+use Rattle.placing.specs.Place.{no_entry, entry_at, HoldsOf, FirstAt, AsksAt}
 use Rattle.placing.proofs.Entries.{length_entries}
 
 -- the first i entries, the nearest first
@@ -39,8 +40,12 @@ module _ {f : List Entry → Entry → Bool} {flat : List ℕ} {i : ℕ} (s : Se
     pub seek_next : r ≡ false → Seeking f flat (i + 1)
     seek_next e = record { within = omega arith; left = rw add-one (rw e at here) }
 
-    pub seek_found : r ≡ true → FirstAt f flat (At i)
+    pub seek_found : r ≡ true → FirstAt f flat (Some i)
     seek_found e = sym (rw e at here)
 
-  pub seek_none : slots_of (length flat) ≤ i → FirstAt f flat Nowhere
+  pub seek_none : slots_of (length flat) ≤ i → FirstAt f flat None
   seek_none h = sym (s.left ∙ ap (first_place f i (earlier i (entries flat))) (drop_of_length-le (entries flat) {i = i} (omega (arith, length_entries flat))))
+
+-- the same for any test whose answers these are
+pub record SeekingAll (flat : List ℕ) (answers : Placement → Bool → Type 0) (i : ℕ) : Type 0 where
+  pub each : (f : List Entry → Entry → Bool) → AsksAt flat (λ p. (b : Bool) → answers p b → HoldsOf f p b) → Seeking f flat i

@@ -46,6 +46,3 @@ module _ {j : Job} {flat : List ℕ} {i total : ℕ} (s : Summing j flat i total
         sum = rw d (omega (arith, k, s.sum));
         bound = omega (arith, s.bound, s.within, is.range.profit.high);
       }
-
-pub summing_end : {j : Job} {flat : List ℕ} {i total : ℕ} → Summing j flat i total → i ≡ 0 → total ≡ worth (job_of (numbers_of j)) (lying (numbers_of j) (entries flat))
-summing_end {j} {flat} s e = s.sum ∙ ap (λ m. worth (job_of (numbers_of j)) (lying (numbers_of j) (drop m (entries flat)))) e

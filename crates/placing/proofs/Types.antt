@@ -1,6 +1,9 @@
 -- The types of a job handed over, by their numbers, and the entries that are of one. Assumes nothing.
-use mathlib.Core.Path.{◌≡◌, sym, ◌∙◌, subst}
-use mathlib.Core.List.{List, map}
+use mathlib.Core.Path.{◌≡◌, refl, sym, ◌∙◌, subst}
+use mathlib.Core.Bool.{Bool, false, ◌||◌}
+use mathlib.Core.List.{List, [], map}
+use lib.Dec.{eqb, ltb}
+use borrow.Author.Tests.{eqb-false, ltb-false}
 use Prim.Native.Nat.{ℕ, zero, suc, ◌*◌, ◌-◌, ◌≤◌, ◌<◌}
 use native.Mathlib.Omega.{arith}
 use lib.ListN.{length, get_or, length-map, get_or-map}
@@ -10,6 +13,8 @@ use Rattle.rules.specs.Bag.{sum, All, nil, cons}
 use Rattle.rules.specs.Placed.{counts_of}
 use Rattle.rules.specs.Numbers.{PieceType, Entry, entries, no_type, job_of, lying, placed}
 use Rattle.rules.specs.Planner.{slots_of}
+use Rattle.rules.specs.Checker.{not_a_type}
+use Rattle.rules.proofs.Bools.{or_false}
 use Rattle.rules.proofs.Bags.{all_index, all_image}
 use Rattle.rules.proofs.Ranges.{TypeInRange}
 use Rattle.rules.proofs.Tally as tally
@@ -53,3 +58,16 @@ few_entries {j} {flat} d =
     let l = entries flat in
     let typed : All (λ p. tally.Typed (job_of n) p.type) (lying n l) = all_image (placed n) (types_kept n l d.typed.typed) in
     omega (arith, tally.sum-at_most (counts_of (job_of n) (lying n l)) (job_of n).demands (demands_kept n l d.demand), tally.pieces_counts typed, length-map l (placed n), length_entries flat, demand_sum d.typed.fine.numbers.types, d.typed.fine.numbers.count.high)
+
+-- test 6 as the code asks it, and what it says of an entry where it finds nothing
+pub type_test : (j : Job) → JobInRange j → (p : Placement) (r : Bool) → r ≡ (eqb p.kind 0 || ltb j.count p.kind) → (es : List Entry) → r ≡ not_a_type (numbers_of j) es (entry_of p)
+type_test j f p r e es = rw (types_count j f) e
+
+pub of_type_lem : (j : Job) → JobInRange j → (p : Placement) → not_a_type (numbers_of j) [] (entry_of p) ≡ false → OfJob j p.kind
+of_type_lem j f p e =
+    let q = or_false (eqb p.kind 0) (ltb (length (numbers_of j).types) p.kind) e in
+    record { fine = f; low = positive p.kind (eqb-false p.kind 0 q.0); high = omega (arith, ltb-false (length (numbers_of j).types) p.kind q.1, types_count j f) }
+  where
+    positive : (k : ℕ) → ¬ (k ≡ 0) → 0 < k
+    positive zero h = absurd (h refl)
+    positive (suc k) h = omega arith

@@ -9,17 +9,11 @@ ghost use Rattle.rules.specs.Placed.{worth};
 ghost use Rattle.rules.specs.Planner.{slots_of};
 ghost use Rattle.rules.specs.Checker.{not_a_type, off_sheet, above_demand};
 ghost use Rattle.shapes.specs.Handed.{entry_of, numbers_of, JobInRange};
-ghost use Rattle.placing.specs.Place.{entry_at, HoldsOf, FirstAt, OfJob, Typed, Demanded, TypeOf};
+ghost use Rattle.placing.specs.Place.{entry_at, HoldsOf, FirstAt, AsksAt, FirstOf, OfJob, Typed, Demanded, TypeOf};
 
 use shapes::{Job, PLACEMENT_NUMBERS, PieceType, Placement, TYPES_MOST, placements_in};
 
-// The first place of a list at which a test holds.
-#[derive(Clone, Copy)]
-pub enum Place {
-    At(usize),
-    Nowhere,
-}
-
+// A list is flat numbers, as `varandeco_check_numbers` of the C interface is lent it.
 pub fn entry_at(list: &[u64], i: usize) -> Placement
     requires { i < slots_of (length list.now) }
     ensures { entry_of result ≡ entry_at list.now i }
@@ -41,41 +35,38 @@ pub fn type_of(job: Job, kind: u64) -> PieceType
     job.types[at]
 }
 
+// The first place of a list at which a test holds that does not look at the placements before.
+fn first_place<F: Fn(Placement) -> bool>(list: &[u64], test: F) -> Option<usize>
+    requires { AsksAt list.now (F.pre test) }
+    ensures { FirstOf list.now (F.post test) result }
+{
+    for i in 0..placements_in(list.len()) {
+        if test(entry_at(list, i)) {
+            return Some(i);
+        }
+    }
+    None
+}
+
 pub fn not_a_type(types: u64, kind: u64) -> bool
     ensures { result ≡ (eqb kind 0 || ltb types kind) }
 {
-    if kind == 0 {
-        return true;
-    }
-    types < kind
+    kind == 0 || types < kind
 }
 
 // 6: "a type not in 1 to n".
-pub fn first_not_a_type(job: Job, list: &[u64]) -> Place
+pub fn first_not_a_type(job: Job, list: &[u64]) -> Option<usize>
     requires { JobInRange job }
     ensures { FirstAt (not_a_type (numbers_of job)) list.now result }
 {
-    let count = placements_in(list.len());
-    let mut i = 0;
-    while i < count {
-        let at = i;
-        let p = entry_at(list, at);
-        i += 1;
-        if not_a_type(job.count, p.kind) {
-            return Place::At(at);
-        }
-    }
-    Place::Nowhere
+    first_place(list, |p| not_a_type(job.count, p.kind))
 }
 
 // A size at a place goes beyond a line; the sum of the two may be more than a number holds.
 fn beyond(at: u64, size: u64, line: u64) -> bool
     ensures { result ≡ not (leb (at + size) line) }
 {
-    if line < size {
-        return true;
-    }
-    line - size < at
+    line < size || line - size < at
 }
 
 pub fn off_sheet(job: Job, p: Placement) -> bool
@@ -83,51 +74,40 @@ pub fn off_sheet(job: Job, p: Placement) -> bool
     ensures { HoldsOf (off_sheet (numbers_of job)) p result }
 {
     let t = type_of(job, p.kind);
-    if beyond(p.x, t.length + job.kerf, job.length) {
-        return true;
-    }
-    beyond(p.y, t.width + job.kerf, job.width)
+    beyond(p.x, t.length + job.kerf, job.length) || beyond(p.y, t.width + job.kerf, job.width)
 }
 
 // 7: "a piece not wholly in the sheet".
-pub fn first_off_sheet(job: Job, list: &[u64]) -> Place
+pub fn first_off_sheet(job: Job, list: &[u64]) -> Option<usize>
     requires { Typed job list.now }
     ensures { FirstAt (off_sheet (numbers_of job)) list.now result }
 {
-    let count = placements_in(list.len());
-    let mut i = 0;
-    while i < count {
-        let at = i;
-        let p = entry_at(list, at);
-        i += 1;
-        if off_sheet(job, p) {
-            return Place::At(at);
-        }
-    }
-    Place::Nowhere
+    first_place(
+        list,
+        |p|
+            requires { OfJob job p.kind }
+            ensures { HoldsOf (off_sheet (numbers_of job)) p result }
+        { off_sheet(job, p) },
+    )
 }
 
 // 8: "a piece that takes its type above the demand". No count goes above a demand, however long the list is.
-pub fn first_above_demand(job: Job, list: &[u64]) -> Place
+pub fn first_above_demand(job: Job, list: &[u64]) -> Option<usize>
     requires { Typed job list.now }
     ensures { FirstAt (above_demand (numbers_of job)) list.now result }
 {
-    let count = placements_in(list.len());
     let mut counts = [0u64; TYPES_MOST];
-    let mut i = 0;
-    while i < count {
-        let at = i;
-        let p = entry_at(list, at);
+    // no `first_place`: what came before is counted
+    for i in 0..placements_in(list.len()) {
+        let p = entry_at(list, i);
         let t = type_of(job, p.kind);
         let kind = (p.kind - 1) as usize;
-        let have = counts[kind];
-        i += 1;
-        if t.demand <= have {
-            return Place::At(at);
+        if t.demand <= counts[kind] {
+            return Some(i);
         }
-        counts[kind] = have + 1;
+        counts[kind] += 1;
     }
-    Place::Nowhere
+    None
 }
 
 // What the pieces of a list earn that the tests let pass.
@@ -135,13 +115,9 @@ pub fn profit_of(job: Job, list: &[u64]) -> u64
     requires { Demanded job list.now }
     ensures { result ≡ worth (job_of (numbers_of job)) (lying (numbers_of job) (entries list.now)) }
 {
-    let mut total: u64 = 0;
-    let mut i = placements_in(list.len());
-    while 0 < i {
-        i -= 1;
-        let p = entry_at(list, i);
-        let t = type_of(job, p.kind);
-        total += t.profit;
+    let mut total = 0;
+    for i in (0..placements_in(list.len())).rev() {
+        total += type_of(job, entry_at(list, i).kind).profit;
     }
     total
 }

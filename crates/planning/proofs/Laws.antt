@@ -6,8 +6,9 @@ use mathlib.Core.List.Memᴰ
 use mathlib.Core.List.{List, [], ◌++◌, map, Memᴰ}
 use Prim.Native.Nat.{ℕ, ◌≤◌, ◌<◌}
 use native.Mathlib.Omega.{arith}
-use lib.ListN.{length, take, drop, replicate, length-append, length-drop, length-map}
+use lib.ListN.{length, take, drop, length-append, length-drop, length-map}
 use lib.Seq.{take_at, drop_at}
+use Rattle.std.specs.Prelude.{Ok, Err}
 use Rattle.rules.specs.Limits.{types_most}
 use Rattle.rules.specs.Bag.{Same, sum}
 use Rattle.rules.specs.Made.{one}
@@ -26,8 +27,6 @@ use Rattle.rules.proofs.Ranges.{positive}
 use Rattle.rules.proofs.Tally.{pieces_counts}
 use Rattle.rules.proofs.Unfold.{Rec, no_rec, at, MadeBy, Lays, lays_some, unfolded}
 use Rattle.shapes.specs.declared.Job.{Job}
-use Rattle.shapes.specs.declared.PlanVerdict.{PlanVerdict}
-use Rattle.shapes.specs.declared.PlanVerdict.TheVariants.{Done, NoPlan}
 use Rattle.shapes.specs.declared.Refusal.TheVariants.{OutOfRange, NothingFits, ArenaFull, BufferShort}
 use Rattle.shapes.specs.Answer.{plan_answer}
 use Rattle.shapes.specs.Handed.{items_of, numbers_of, JobInRange}
@@ -153,7 +152,7 @@ module _ (job : Job) (s : List ℕ) (n : ℕ) (c : Choosing job s n) (i : ℕ) (
 
 -- the answers
 module _ (job : Job) where
-  pub answer_full : (s : List ℕ) (buffer : List ℕ) → TooMany job s → Answered job (length s) buffer buffer (NoPlan ArenaFull)
+  pub answer_full : (s : List ℕ) (buffer : List ℕ) → TooMany job s → Answered job (length s) buffer buffer (Err ArenaFull)
   answer_full s buffer m = record { planned = too_many m; buffer = record { written = λ z. absurd (omega arith); kept = λ _. refl }; wiped = λ _. refl }
 
   module _ (s : List ℕ) (n : ℕ) (c : Choosing job s n) (i : ℕ) (r : Record) (l : Loaded (record_at s i) r) (t : Top job s n i) where
@@ -166,10 +165,10 @@ module _ (job : Job) where
     all_room : length (outlines_in job s n) ≤ room_of (length s)
     all_room = omega (arith, c.room, length_outlines job s n)
 
-    pub answer_short : (buffer : List ℕ) → slots_of (length buffer) < rules.pieces chosen → Answered job (length s) buffer buffer (NoPlan BufferShort)
+    pub answer_short : (buffer : List ℕ) → slots_of (length buffer) < rules.pieces chosen → Answered job (length s) buffer buffer (Err BufferShort)
     answer_short buffer h = record { planned = no_slots c.all all_room best h; buffer = record { written = λ z. absurd (omega arith); kept = λ _. refl }; wiped = λ _. refl }
 
-    pub answer_done : (buffer after : List ℕ) (profit pieces : ℕ) → profit ≡ rules.profit (job_for job) chosen → pieces ≡ rules.pieces chosen → rules.pieces chosen ≤ slots_of (length buffer) → Written (numbers_of job) chosen buffer after → Answered job (length s) buffer after (Done (record { profit = profit; length = r.outline.length.0; width = r.outline.width.0; pieces = pieces; outlines = n }))
+    pub answer_done : (buffer after : List ℕ) (profit pieces : ℕ) → profit ≡ rules.profit (job_for job) chosen → pieces ≡ rules.pieces chosen → rules.pieces chosen ≤ slots_of (length buffer) → Written (numbers_of job) chosen buffer after → Answered job (length s) buffer after (Ok (record { profit = profit; length = r.outline.length.0; width = r.outline.width.0; pieces = pieces; outlines = n }))
     answer_done buffer after profit pieces ep ec h w = record {
       planned = subst (Planned (job_for job) (room_of (length s)) (slots_of (length buffer))) (λ k. record { number = 0; place = 0; profit = sym ep k; long = chosen.long; wide = chosen.wide; pieces = sym ec k; outlines = length_outlines job s n k }) (done c.all all_room best h);
       buffer = record { written = λ _. (chosen, best, w); kept = λ z. absurd (z refl) };
@@ -177,7 +176,7 @@ module _ (job : Job) where
     }
 
   -- nothing fits, and nothing is touched
-  pub left_unfit : (arena buffer : List ℕ) → (SomeFits job → ⊥) → Left job arena buffer (record { answer = plan_answer (NoPlan NothingFits); arena = arena; buffer = buffer })
+  pub left_unfit : (arena buffer : List ℕ) → (SomeFits job → ⊥) → Left job arena buffer (record { answer = plan_answer (Err NothingFits); arena = arena; buffer = buffer })
   left_unfit arena buffer f = record {
     planned = none_fits (all_of (job_for job).singles (λ p m k. f (record { piece = p; single = m; fits = k })));
     arena_left = refl;
@@ -185,11 +184,8 @@ module _ (job : Job) where
   }
 
   -- the arena is wiped
-  pub left_wiped : (arena buffer t after : List ℕ) (v : PlanVerdict) → Answered job (length arena) buffer after v → t ≡ replicate (length arena) 0 → Left job arena buffer (record { answer = plan_answer v; arena = t; buffer = after })
-  left_wiped arena buffer t after v a e = record { planned = a.planned; arena_left = e ∙ sym (a.wiped arena); buffer_left = a.buffer }
-
   -- the check of the numbers comes first
-  pub refused_item : (arena buffer : List ℕ) (item : ℕ) → out_of_range (items_of job) ≡ some item → PlanNumbers arena buffer (items_of job) (record { answer = plan_answer (NoPlan (OutOfRange item)); arena = arena; buffer = buffer })
+  pub refused_item : (arena buffer : List ℕ) (item : ℕ) → out_of_range (items_of job) ≡ some item → PlanNumbers arena buffer (items_of job) (record { answer = plan_answer (Err (OutOfRange item)); arena = arena; buffer = buffer })
   refused_item arena buffer item e = outside e
 
   module _ (h : length job.types ≡ types_most) (fine : out_of_range (items_of job) ≡ none) where

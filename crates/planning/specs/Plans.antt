@@ -1,12 +1,13 @@
 -- What the planner's steps ask for, answer and leave. Assumes nothing.
-use Rattle.std.specs.Prelude.{◌≡◌, ℕ, ◌≤◌, ◌<◌, length, replicate}
+use Rattle.std.specs.Prelude.{◌≡◌, ℕ, ◌≤◌, ◌<◌, length, replicate, Result}
 use mathlib.Core.List.{List, Memᴰ}
 use Rattle.rules.specs.Job as rules
 use Rattle.rules.specs.Planner.{room_of, slots_of, FitsAlone, Planned, BufferLeft, arena_after}
 use Rattle.rules.specs.Answers.{PlanLeft}
 use Rattle.rules.proofs.Unfold.{Valid}
 use Rattle.shapes.specs.declared.Job.{Job}
-use Rattle.shapes.specs.declared.PlanVerdict.{PlanVerdict}
+use Rattle.shapes.specs.declared.Plan.{Plan}
+use Rattle.shapes.specs.declared.Refusal.{Refusal}
 use Rattle.shapes.specs.Answer.{plan_answer}
 use Rattle.shapes.specs.Handed.{numbers_of, JobInRange}
 use Rattle.outline.specs.Stands.{job_for}
@@ -31,7 +32,7 @@ pub record Choosing (job : Job) (s : List ℕ) (n : ℕ) : Type 0 where
   pub valid : Valid (job_for job) (recs_in job s n)
 
 -- the answer to a job of which some type fits, in an arena of so many bytes, and what it leaves in the plan buffer; the arena is to be wiped
-pub record Answered (job : Job) (bytes : ℕ) (before after : List ℕ) (r : PlanVerdict) : Type 0 where
+pub record Answered (job : Job) (bytes : ℕ) (before after : List ℕ) (r : Result Plan Refusal) : Type 0 where
   pub planned : Planned (job_for job) (room_of bytes) (slots_of (length before)) (plan_answer r)
   pub buffer : BufferLeft (numbers_of job) (plan_answer r).number before after
   pub wiped : (s : List ℕ) → arena_after (plan_answer r).number s ≡ replicate (length s) 0

@@ -10,21 +10,15 @@ ghost use Rattle.std.specs.Prelude.{length};
 ghost use Rattle.outlines.specs.Listing.{Told};
 ghost use Rattle.planning.specs.Plans.{SomeFits, Fitting, Choosing, Answered, Left};
 
-use jobs::Item;
-use outlines::Listed;
-use shapes::{Job, Plan, PlanVerdict, Refusal};
+use shapes::{Job, Plan, Refusal};
 
 // Some type fits alone.
 fn some_fits(job: Job) -> bool
     requires { JobInRange job }
     ensures { Told (SomeFits job) result }
 {
-    let types = job.count as usize;
-    let mut t = 0;
-    while t < types {
-        let at = t;
-        t += 1;
-        if outline::single(job, at).fits(job) {
+    for t in 0..job.count as usize {
+        if outline::single(job, t).fits(job) {
             return true;
         }
     }
@@ -32,7 +26,7 @@ fn some_fits(job: Job) -> bool
 }
 
 // All n outlines are listed: chooses the best, unfolds it and puts its placements in order.
-fn plan_listed(job: Job, arena: &[u8], n: usize, buffer: &mut [u64]) -> PlanVerdict
+fn plan_listed(job: Job, arena: &[u8], n: usize, buffer: &mut [u64]) -> Result<Plan, Refusal>
     requires { Choosing job arena.now n }
     ensures { Answered job (length arena.now) buffer.old buffer.new result }
 {
@@ -41,11 +35,11 @@ fn plan_listed(job: Job, arena: &[u8], n: usize, buffer: &mut [u64]) -> PlanVerd
     let pieces = choice::pieces(job, o);
     let profit = choice::profit(job, o);
     if (shapes::placements_in(buffer.len()) as u64) < pieces {
-        return PlanVerdict::NoPlan(Refusal::BufferShort);
+        return Err(Refusal::BufferShort);
     }
     let end = unfolding::lay(arena, at, 0, 0, buffer);
     order::order(&mut buffer[..end], pieces as usize);
-    PlanVerdict::Done(Plan {
+    Ok(Plan {
         profit,
         length: o.length.0,
         width: o.width.0,
@@ -55,35 +49,33 @@ fn plan_listed(job: Job, arena: &[u8], n: usize, buffer: &mut [u64]) -> PlanVerd
 }
 
 // Some type fits: lists all outlines, if the arena has room for them.
-fn plan_fitting(job: Job, arena: &mut [u8], buffer: &mut [u64]) -> PlanVerdict
+fn plan_fitting(job: Job, arena: &mut [u8], buffer: &mut [u64]) -> Result<Plan, Refusal>
     requires { Fitting job }
     ensures { Answered job (length arena.old) buffer.old buffer.new result }
 {
-    match listing::list_outlines(job, arena) {
-        Listed::Full => PlanVerdict::NoPlan(Refusal::ArenaFull),
-        Listed::Complete(n) => plan_listed(job, arena, n, buffer),
-    }
+    let n = listing::list_outlines(job, arena)?;
+    plan_listed(job, arena, n, buffer)
 }
 
 // Plans a job whose numbers are in range; what was written into the arena is wiped.
-fn plan_in_range(job: Job, arena: &mut [u8], buffer: &mut [u64]) -> PlanVerdict
+fn plan_in_range(job: Job, arena: &mut [u8], buffer: &mut [u64]) -> Result<Plan, Refusal>
     requires { JobInRange job }
     ensures { Left job arena.old buffer.old (record { answer = plan_answer result; arena = arena.new; buffer = buffer.new }) }
 {
-    if some_fits(job) {
-        let v = plan_fitting(job, arena, buffer);
-        arena::zero(arena);
-        return v;
+    if !some_fits(job) {
+        return Err(Refusal::NothingFits);
     }
-    PlanVerdict::NoPlan(Refusal::NothingFits)
+    let answer = plan_fitting(job, arena, buffer);
+    arena::zero(arena);
+    answer
 }
 
 // Plans a job handed over as numbers.
-pub fn plan_job(job: Job, arena: &mut [u8], buffer: &mut [u64]) -> PlanVerdict
+pub fn plan_job(job: Job, arena: &mut [u8], buffer: &mut [u64]) -> Result<Plan, Refusal>
     ensures { PlanNumbers arena.old buffer.old (items_of job) (record { answer = plan_answer result; arena = arena.new; buffer = buffer.new }) }
 {
     match jobs::first_out_of_range(job) {
-        Item::Out(item) => PlanVerdict::NoPlan(Refusal::OutOfRange(item)),
-        Item::Fine => plan_in_range(job, arena, buffer),
+        Some(item) => Err(Refusal::OutOfRange(item)),
+        None => plan_in_range(job, arena, buffer),
     }
 }

@@ -5,12 +5,12 @@ use Prim.Native.Nat.{ℕ}
 use native.Mathlib.Omega.{arith}
 use Rattle.rules.specs.Planner.{no_plan}
 use Rattle.rules.specs.Answers.{Ranged, PlanLeft, refused_plan, PlanItems, PlanNumbers, PlanText, outside, no_text, a_text}
-use Rattle.shapes.specs.Answer.{number_of, place_of}
+use Rattle.std.specs.Prelude.{Ok, Err}
+use Rattle.shapes.specs.declared.Job.{Job}
+use Rattle.shapes.specs.Answer.{plan_answer}
 use Rattle.shapes.specs.Handed.{items_of}
 use Rattle.shapes.specs.declared.Refusal.{Refusal}
-use Rattle.texts.specs.declared.Told.TheVariants.{Fine, Refused}
-use Rattle.texts.specs.declared.JobText.{JobText}
-use Rattle.texts.specs.Told.{told_number, told_place, JobAnswer, job_answer, JobRead}
+use Rattle.texts.specs.Told.{JobAnswer, job_answer, JobRead}
 use Rattle.texts.proofs.Refusals.{some_number}
 use Rattle.rules.specs.Answers as answers
 
@@ -26,16 +26,14 @@ early (no_text x) h arena buffer = refl
 early (a_text x (outside e)) h arena buffer = refl
 early (a_text x (answers.within e j)) h arena buffer = absurd (h j.number)
 
-pub refuses_told : (arena buffer : List ℕ) {t : List ℕ} {p : JobText} → JobRead t (job_answer p) → {r : Refusal} → p.told ≡ Refused r → PlanText arena buffer t (record { answer = no_plan (number_of r) (place_of r); arena = arena; buffer = buffer })
-refuses_told arena buffer {t} {p} x {r} e =
-    let h : ¬ (told_number p.told ≡ 0) = λ z. some_number r (sym (ap told_number e) ∙ z) in
-    subst (λ u. PlanText arena buffer t (record { answer = no_plan (told_number u) (told_place u); arena = arena; buffer = buffer })) e (subst (PlanText arena buffer t) (early x h arena buffer) (refuses x h))
+pub refuses_told : (arena buffer : List ℕ) {t : List ℕ} (r : Refusal) → JobRead t (job_answer (Err r)) → PlanText arena buffer t (record { answer = plan_answer (Err r); arena = arena; buffer = buffer })
+refuses_told arena buffer {t} r x = subst (PlanText arena buffer t) (early x (some_number r) arena buffer) (refuses x (some_number r))
 
 -- the planner's answer to the job is that to the text
-pub planned_told : {arena buffer t : List ℕ} {p : JobText} {left : PlanLeft} → JobRead t (job_answer p) → p.told ≡ Fine → PlanNumbers arena buffer (items_of p.job) left → PlanText arena buffer t left
-planned_told {arena} {buffer} {t} {p} {left} x e y = go x (ap told_number e) refl
+pub planned_told : {arena buffer t : List ℕ} (job : Job) {left : PlanLeft} → JobRead t (job_answer (Ok job)) → PlanNumbers arena buffer (items_of job) left → PlanText arena buffer t left
+planned_told {arena} {buffer} {t} job {left} x y = go x refl refl
   where
-    go : {a : JobAnswer} → JobRead t a → a.number ≡ 0 → p.job ≡ a.job → PlanText arena buffer t left
+    go : {a : JobAnswer} → JobRead t a → a.number ≡ 0 → job ≡ a.job → PlanText arena buffer t left
     go (no_text k) z j = absurd (omega arith)
     go (a_text k (outside o)) z j = absurd (omega arith)
     go {a} (a_text {vs = vs} k (answers.within o i)) z j = a_text k (subst (λ us. Ranged (refused_plan arena buffer) (PlanItems arena buffer) us left) (ap items_of j ∙ i.items) y)

@@ -7,29 +7,22 @@ ghost use Rattle.rules.specs.Answers.{PlanText, PlanInput};
 ghost use Rattle.shapes.specs.Answer.{plan_answer};
 
 use planning::plan_job;
-use shapes::{INPUT_MOST, PlanVerdict, Refusal};
-use texts::{Told, read_job};
+use shapes::{INPUT_MOST, Plan, Refusal};
+use texts::read_job;
 
-pub fn plan_text(text: &[u8], arena: &mut [u8], buffer: &mut [u64]) -> PlanVerdict
+pub fn plan_text(text: &[u8], arena: &mut [u8], buffer: &mut [u64]) -> Result<Plan, Refusal>
     ensures { PlanText arena.old buffer.old text.now (record { answer = plan_answer result; arena = arena.new; buffer = buffer.new }) }
 {
-    let read = read_job(text);
-    let told = read.told;
-    match told {
-        Told::Refused(refusal) => PlanVerdict::NoPlan(refusal),
-        Told::Fine => {
-            let job = read.job;
-            plan_job(job, arena, buffer)
-        }
-    }
+    let job = read_job(text)?;
+    plan_job(job, arena, buffer)
 }
 
 // A program's input may be too long.
-pub fn plan_input(input: &[u8], arena: &mut [u8], buffer: &mut [u64]) -> PlanVerdict
+pub fn plan_input(input: &[u8], arena: &mut [u8], buffer: &mut [u64]) -> Result<Plan, Refusal>
     ensures { PlanInput arena.old buffer.old input.now (record { answer = plan_answer result; arena = arena.new; buffer = buffer.new }) }
 {
     if INPUT_MOST < input.len() {
-        return PlanVerdict::NoPlan(Refusal::InputTooLong);
+        return Err(Refusal::InputTooLong);
     }
     plan_text(input, arena, buffer)
 }

@@ -7,14 +7,13 @@ use plantext::plan_input;
 use shapes::{INPUT_ROOM, PIECES_MOST, PLACEMENT_NUMBERS, PLAN_NUMBERS, PROGRAM_ARENA};
 use std::io;
 use std::io::Write;
-use writing::Written;
 
 // 600 lines of at most 13 bytes, and the count.
 const SECTION_ROOM: usize = 8_192;
 
 fn print_section(to: &mut impl Write, flat: &[u64]) -> io::Result<()> {
     let mut out = [0u8; SECTION_ROOM];
-    if let Written::To(end) = writing::placement_section(flat, &mut out, 0) {
+    if let Ok(end) = writing::placement_section(flat, &mut out, 0) {
         to.write_all(&out[..end])?;
     }
     Ok(())
@@ -27,11 +26,11 @@ fn main(rt: HostRuntime) -> io::Result<()> {
     let n = input::read_full(&mut rt.stdin(), &mut input)?;
     let line = shapes::plan_line(plan_input(&input[..n], &mut arena, &mut buffer));
     let mut out = [0u8; 256];
-    if let Written::To(end) = writing::plan_line(line, &mut out, 0) {
+    if let Ok(end) = writing::plan_line(line, &mut out, 0) {
         rt.stdout().write_all(&out[..end])?;
     }
     if line.number == 0 {
-        let pieces = line.plan.pieces as usize;
+        let pieces = line.found.pieces as usize;
         if pieces <= PIECES_MOST {
             let numbers = PLACEMENT_NUMBERS * pieces;
             print_section(&mut rt.stdout(), &buffer[..numbers])?;

@@ -14,27 +14,27 @@ use Rattle.rules.specs.Limits.{digits_most}
 use Rattle.rules.proofs.Reading.{is_digit, room}
 use Rattle.rules.proofs.Bools.{and_both, both_and}
 use Rattle.reader.specs.Number.{number_from}
-use Rattle.reader.specs.declared.Numeral.TheVariants.{Is, IsNot}
+use Rattle.std.specs.Prelude.{Ok, Err}
 
 module _ (e : ℕ) (s : List ℕ) (i n v : ℕ) where
-  pub out : length s ≤ i → number_from e i n v (drop i s) ≡ IsNot i
+  pub out : length s ≤ i → number_from e i n v (drop i s) ≡ Err (record { place = i })
   out h = rw (drop_of_length-le s h)
 
   module _ (h : i < length s) where
     pub one_digit : (is_digit (get_or s i 0) && room n v) ≡ true → number_from e i n v (drop i s) ≡ number_from e (i + 1) (n + 1) (v * 10 + (get_or s i 0 - 48)) (drop (i + 1) s)
     one_digit p = rw (add-one i, add-one n, mul_comm v 10, drop-cons s i 0 h, p, number_from)
 
-    pub number : (is_digit (get_or s i 0) && room n v) ≡ false → get_or s i 0 ≡ e → 0 < n → number_from e i n v (drop i s) ≡ Is v (i + 1)
+    pub number : (is_digit (get_or s i 0) && room n v) ≡ false → get_or s i 0 ≡ e → 0 < n → number_from e i n v (drop i s) ≡ Ok (v, i + 1)
     number p q z = rw (add-one i, drop-cons s i 0 h, p, both_and (eq-eqb (get_or s i 0) e q) (lt-ltb 0 n z), number_from)
 
-    pub no_digit_yet : (is_digit (get_or s i 0) && room n v) ≡ false → n ≤ 0 → number_from e i n v (drop i s) ≡ IsNot i
+    pub no_digit_yet : (is_digit (get_or s i 0) && room n v) ≡ false → n ≤ 0 → number_from e i n v (drop i s) ≡ Err (record { place = i })
     no_digit_yet p z = rw (drop-cons s i 0 h, p, none (eqb (get_or s i 0) e), number_from)
       where
         none : (b : Bool) → (b && ltb 0 n) ≡ false
         none true = le-ltb 0 n z
         none false = refl
 
-    pub other_byte : (is_digit (get_or s i 0) && room n v) ≡ false → (get_or s i 0 ≡ e → ⊥) → number_from e i n v (drop i s) ≡ IsNot i
+    pub other_byte : (is_digit (get_or s i 0) && room n v) ≡ false → (get_or s i 0 ≡ e → ⊥) → number_from e i n v (drop i s) ≡ Err (record { place = i })
     other_byte p q = rw (drop-cons s i 0 h, p, ne_eqb (get_or s i 0) e q, number_from)
 
 pub record Grows (b n v : ℕ) : Type 0 where

@@ -10,12 +10,12 @@ use native.Mathlib.Numerals.{add-one}
 use Rattle.rules.specs.Text.{Script, num, End, byte}
 use Rattle.rules.proofs.Reading.{Read, stop, read, noted, is_digit, room}
 use Rattle.reader.specs.Number.{number_from, number_at}
-use Rattle.reader.specs.declared.Numeral.{Numeral}
-use Rattle.reader.specs.declared.Numeral.TheVariants.{Is, IsNot}
+use Rattle.std.specs.Prelude.{Result, Ok, Err}
+use Rattle.reader.specs.declared.Stray.{Stray}
 
-abbrev pub follow : (ℕ → Script) → List ℕ → Numeral → Read
-follow k s (Is w j) = noted w (read (k w) j 0 0 (drop j s))
-follow k s (IsNot j) = stop j
+abbrev pub follow : (ℕ → Script) → List ℕ → Result (ℕ × ℕ) Stray → Read
+follow k s (Ok (w, j)) = noted w (read (k w) j 0 0 (drop j s))
+follow k s (Err stray) = stop stray.place
 
 tail_of : {b : ℕ} {t : List ℕ} (s : List ℕ) (i : ℕ) → b ∷ t ≡ drop i s → t ≡ drop (suc i) s
 tail_of s i e = ap (drop 1) e ∙ drop-drop 1 i s ∙ rw (add-one i)
@@ -26,7 +26,7 @@ go e k s (b ∷ t) i n v p = step (is_digit b && room n v) (eqb b (byte e) && lt
   where
     step : (x y : Bool) → read (num e k) (suc i) (suc n) (10 * v + (b - 48)) t ≡ follow k s (number_from (byte e) (suc i) (suc n) (10 * v + (b - 48)) t) →
         elim x as (λ (c : Bool). Read) [ true ↦ read (num e k) (suc i) (suc n) (10 * v + (b - 48)) t | false ↦ elim y as (λ (c : Bool). Read) [ true ↦ noted v (read (k v) (suc i) 0 0 t) | false ↦ stop i ] ]
-        ≡ follow k s (elim x as (λ (c : Bool). Numeral) [ true ↦ number_from (byte e) (suc i) (suc n) (10 * v + (b - 48)) t | false ↦ elim y as (λ (c : Bool). Numeral) [ true ↦ Is v (suc i) | false ↦ IsNot i ] ])
+        ≡ follow k s (elim x as (λ (c : Bool). Result (ℕ × ℕ) Stray) [ true ↦ number_from (byte e) (suc i) (suc n) (10 * v + (b - 48)) t | false ↦ elim y as (λ (c : Bool). Result (ℕ × ℕ) Stray) [ true ↦ Ok (v, suc i) | false ↦ Err (record { place = i }) ] ])
     step true y r = r
     step false true r = ap (λ l. noted v (read (k v) (suc i) 0 0 l)) (tail_of s i p)
     step false false r = refl

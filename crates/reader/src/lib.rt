@@ -3,80 +3,65 @@
 // or the place where the text leaves the grammar.
 #![tactic(auto)]
 
-ghost use Rattle.std.specs.Prelude.{◌≡◌, ◌&&◌, ◌-◌, ◌≤◌, ◌<◌};
+ghost use Rattle.std.specs.Prelude.{◌≡◌, ◌&&◌, ◌-◌, ◌≤◌, ◌<◌, MatchResult, OnErr};
 ghost use Rattle.rules.proofs.Reading.{is_digit, room};
+ghost use Rattle.shapes.specs.declared.Refusal.TheVariants.{NotInGrammar};
 ghost use Rattle.reader.specs.Number.{number_at};
 
-use shapes::DIGITS_MOST;
+use shapes::{DIGITS_MOST, Refusal};
 
 // What ends a number.
-pub const SPACE: u8 = 32;
+pub const SPACE: u8 = b' ';
 
-pub const LF: u8 = 10;
+pub const LF: u8 = b'\n';
 
-// A number with the position behind it, or the place where the text leaves the grammar.
-#[derive(Clone, Copy)]
-pub enum Numeral {
-    Is(u64, usize),
-    IsNot(usize),
+// A text leaves the grammar at this place: refusal 1.
+#[derive(Clone, Copy, Debug, PartialEq, Eq)]
+pub struct Stray {
+    pub place: usize,
+}
+
+impl From<Stray> for Refusal {
+    ghost from_gives = { λ stray refusal. refusal ≡ NotInGrammar stray.place };
+
+    fn from(stray: Stray) -> Refusal {
+        Refusal::NotInGrammar(stray.place)
+    }
 }
 
 // Whether the byte is a digit that may come after so many digits with this value.
 fn may_follow(b: u8, digits: usize, value: u64) -> bool
     ensures { result ≡ (is_digit b && room digits value) }
 {
-    if b < 48 {
-        return false;
-    }
-    if 58 <= b {
-        return false;
-    }
-    if digits == 0 {
-        return true;
-    }
-    if value == 0 {
-        return false;
-    }
-    digits < DIGITS_MOST
+    b.is_ascii_digit() && (digits == 0 || 0 < value && digits < DIGITS_MOST)
 }
 
 fn digit(b: u8) -> u64
     requires { (48 ≤ b) × (b < 58) }
     ensures { result ≡ b - 48 }
 {
-    (b - 48) as u64
+    u64::from(b - b'0')
 }
 
-// The number that begins at `from` and is ended by the byte `end`.
-pub fn number_at(text: &[u8], from: usize, end: u8) -> Numeral
+// The number that begins at `from` and is ended by the byte `end`, with the position behind it, or the place where the text leaves the grammar.
+pub fn number_at(text: &[u8], from: usize, end: u8) -> Result<(u64, usize), Stray>
     ensures { result ≡ number_at end text.now from }
 {
-    let mut at = from;
     let mut digits = 0;
-    let mut value: u64 = 0;
-    while at < text.len() {
+    let mut value = 0;
+    for at in from..text.len() {
         let b = text[at];
         if may_follow(b, digits, value) {
             value = value * 10 + digit(b);
             digits += 1;
-            at += 1;
+        } else if b == end && 0 < digits {
+            return Ok((value, at + 1));
         } else {
-            if b == end {
-                if 0 < digits {
-                    return Numeral::Is(value, at + 1);
-                }
-            }
-            return Numeral::IsNot(at);
+            return Err(Stray { place: at });
         }
     }
-    Numeral::IsNot(at)
-}
-
-// A count is ended by LF.
-pub fn count_at(text: &[u8], at: usize) -> Numeral
-    ensures { result ≡ number_at 10 text.now at }
-{
-    number_at(text, at, LF)
+    let place = text.len().max(from);
+    Err(Stray { place })
 }
 
 // The one reading position, with the text that it walks.
@@ -86,33 +71,31 @@ pub struct Reader<'a> {
     pub at: usize,
 }
 
-// At the front of a text.
-pub fn new<'a>(text: &'a [u8]) -> Reader<'a>
-    ensures { (result.text ≡ text.entry) × (result.at ≡ 0) }
-{
-    Reader { text, at: 0 }
-}
-
-// The count at the reader's place.
-pub fn count<'a>(r: Reader<'a>) -> Numeral
-    ensures { result ≡ number_at 10 r.entry.text.now r.entry.at }
-{
-    count_at(r.text, r.at)
-}
-
-// The reader further on.
-pub fn moved<'a>(r: Reader<'a>, to: usize) -> Reader<'a>
-    ensures { (result.text ≡ r.entry.text) × (result.at ≡ to) }
-{
-    Reader {
-        text: r.text,
-        at: to,
+impl<'a> Reader<'a> {
+    // At the front of a text.
+    pub fn new(text: &'a [u8]) -> Reader<'a>
+        ensures { (result.text ≡ text.entry) × (result.at ≡ 0) }
+    {
+        Reader { text, at: 0 }
     }
-}
 
-// The count that a text begins with: its caller holds a text and needs no reader.
-pub fn first_count(text: &[u8]) -> Numeral
-    ensures { result ≡ number_at 10 text.now 0 }
-{
-    count(new(text))
+    // Reads the number that begins here and is ended by the byte `end`, and stands behind it then. It stays where it is if there is none.
+    pub fn number(&mut self, end: u8) -> Result<u64, Stray>
+        ensures text { self.new.text ≡ self.old.text }
+        ensures number { MatchResult result (λ n. number_at end self.old.text.now self.old.at ≡ Ok (n, self.new.at)) (λ stray. number_at end self.old.text.now self.old.at ≡ Err stray) }
+        ensures stays { OnErr result (self.new ≡ self.old) }
+    {
+        let (number, next) = number_at(self.text, self.at, end)?;
+        self.at = next;
+        Ok(number)
+    }
+
+    // A count is ended by LF.
+    pub fn count(&mut self) -> Result<u64, Stray>
+        ensures text { self.new.text ≡ self.old.text }
+        ensures number { MatchResult result (λ n. number_at 10 self.old.text.now self.old.at ≡ Ok (n, self.new.at)) (λ stray. number_at 10 self.old.text.now self.old.at ≡ Err stray) }
+        ensures stays { OnErr result (self.new ≡ self.old) }
+    {
+        self.number(LF)
+    }
 }

@@ -2,5 +2,5 @@
 pub mod Walks
 pub mod Lines
 pub mod Types
-pub mod Parts
 pub mod Flat
+pub mod Parts

@@ -1,90 +1,79 @@
 -- Reading a line of numbers, and lines one after the other. Assumes nothing.
-use mathlib.Core.Path.{◌≡◌, refl, sym, ap, ◌∙◌}
+use mathlib.Core.Path.{◌≡◌, refl, sym, ap, ◌∙◌, subst}
 use mathlib.Core.List.{List, [], ◌∷◌, ◌++◌}
 use Prim.Native.Nat.{ℕ, zero, suc, ◌+◌, ◌-◌, ◌≤◌, ◌<◌}
 use native.Mathlib.Omega.{arith}
 use native.Mathlib.Numerals.{add-one}
-use lib.ListN.{length, take, drop, set, length-set}
+use lib.ListN.{length, take, set, replicate, length-set, length-replicate}
+use Rattle.std.proofs.lemmas.List.{take_all}
 use lib.Seq.{take-suc-set}
-use Rattle.rules.specs.Text.{space, line, Script, num, a_line, some_lines, section}
-use Rattle.rules.proofs.Reading.{read, stop}
+use Rattle.rules.specs.Text.{End, byte, space, line, Script, num, a_line, some_lines}
+use Rattle.std.specs.Prelude.{Ok, Err}
 use Rattle.reader.specs.Number.{number_at}
-use Rattle.reader.specs.declared.Numeral.TheVariants.{Is, IsNot}
-use Rattle.reading.specs.Walked.{Walking, Walked, arrives, leaves, InLine, Passed, InLines}
-use Rattle.reading.specs.declared.Walk.{Walk}
-use Rattle.reading.specs.declared.Walk.TheVariants.{To, Stops}
-use Rattle.reading.proofs.Walks.{walk_start, walk_is, walk_is_not, walk_on, walk_stops, walk_both, walk_same}
+use Rattle.reader.specs.declared.Stray.{Stray}
+use Rattle.reading.specs.Walked.{Strays, Arrives, InLine, Passed, InLines}
+use Rattle.reading.proofs.Walks.{walk_start, walk_is, walk_is_not, walk_on, walk_stops, walk_same}
 
 same_line : {k m : ℕ} → k ≡ m → (s : Script) → a_line k s ≡ a_line m s
 same_line e s = ap (λ n. a_line n s) e
 
-pub in_line_start : {t : List ℕ} {from w : ℕ} {numbers : List ℕ} → 0 < w → length numbers ≡ 4 → InLine t from w numbers from 0
-in_line_start {t} {from} {w} h l = record { within = h; size = l; walking = walk_same (walk_start (a_line w) t from) refl (same_line {k = w} {m = w - 0} (omega arith)) }
+pub in_line_start : {t : List ℕ} {from : ℕ} (w : ℕ) → InLine t from w (replicate w 0) from 0
+in_line_start {t} {from} w = record { within = omega arith; size = length-replicate w 0; walking = walk_same (walk_start (a_line w) t from) refl (same_line {k = w} {m = w - 0} (omega arith)) }
 
--- what a line asks for next: a number and a space, or the last number and LF
-asks_space : (k : ℕ) → 1 < k → (s : Script) → a_line k s ≡ num space (λ v. a_line (k - 1) s)
-asks_space zero h s = absurd (omega arith)
-asks_space (suc zero) h s = absurd (omega arith)
-asks_space (suc (suc k)) h s = let e : suc k ≡ suc (suc k) - 1 = omega arith in ap (λ m. num space (λ v. a_line m s)) e
+-- what ends a number of a line that has k numbers left, this one among them, and what the line then asks for
+pub record Next (k b : ℕ) : Type 0 where
+  pub ending : End
+  pub is : byte ending ≡ b
+  pub asks : (s : Script) → a_line k s ≡ num ending (λ v. a_line (k - 1) s)
 
-asks_line : (k : ℕ) → k ≡ 1 → (s : Script) → a_line k s ≡ num line (λ v. s)
-asks_line k e s = ap (λ m. a_line m s) e
+pub next_of : (k b : ℕ) → 0 < k → (1 < k → b ≡ 32) → (k ≤ 1 → b ≡ 10) → Next k b
+next_of zero b h p q = absurd (omega arith)
+next_of (suc zero) b h p q = record { ending = line; is = sym (q (omega arith)); asks = λ s. refl }
+next_of (suc (suc k)) b h p q = record { ending = space; is = sym (p (omega arith)); asks = λ s. let e : suc k ≡ suc (suc k) - 1 = omega arith in ap (λ m. num space (λ v. a_line m s)) e }
 
-module _ {t : List ℕ} {from w at j : ℕ} {numbers : List ℕ} (x : InLine t from w numbers at j) (few : w ≤ 4) where
+module _ {t u : List ℕ} {from w at j b : ℕ} {numbers : List ℕ} (x : InLine t from w numbers at j) (same : u ≡ t) (h : j < w) (n : Next (w - j) b) where
+  number_is : {r : _} → number_at b u at ≡ r → number_at (byte n.ending) t at ≡ r
+  number_is e = ap (λ k. number_at k t at) n.is ∙ ap (λ v. number_at b v at) (sym same) ∙ e
+
   stored : (v : ℕ) → take j numbers ++ (v ∷ []) ≡ take (j + 1) (set numbers j v)
-  stored v = let h : j < length numbers = omega (arith, x.size, x.within) in sym (ap (λ k. take k (set numbers j v)) (add-one j) ∙ take-suc-set numbers j v h)
+  stored v = let k : j < length numbers = omega (arith, x.size) in sym (ap (λ k. take k (set numbers j v)) (add-one j) ∙ take-suc-set numbers j v k)
 
-  module _ (h : j + 1 < w) where
-    asks : (s : Script) → a_line (w - j) s ≡ num space (λ v. a_line (w - j - 1) s)
-    asks s = asks_space (w - j) (omega arith) s
+  pub in_line_next : (v next : ℕ) → number_at b u at ≡ Ok (v, next) → InLine t from w (set numbers j v) next (j + 1)
+  in_line_next v next e = record {
+    within = omega arith;
+    size = length-set numbers j v ∙ x.size;
+    walking = walk_same (walk_is x.walking n.ending (λ v. a_line (w - j - 1)) n.asks v next (number_is e)) (stored v) (same_line {k = w - j - 1} {m = w - (j + 1)} (omega arith));
+  }
 
-    pub in_line_next : (v next : ℕ) → number_at 32 t at ≡ Is v next → InLine t from w (set numbers j v) next (j + 1)
-    in_line_next v next e = record {
-      within = h;
-      size = length-set numbers j v ∙ x.size;
-      walking = walk_same (walk_is x.walking space (λ v. a_line (w - j - 1)) asks v next e) (stored v) (same_line {k = w - j - 1} {m = w - (j + 1)} (omega arith));
-    }
+  pub in_line_stops : (stray : Stray) → number_at b u at ≡ Err stray → Strays (a_line w) t from stray
+  in_line_stops stray e = walk_is_not x.walking n.ending (λ v. a_line (w - j - 1)) n.asks stray (number_is e)
 
-    pub in_line_stops : (place : ℕ) → number_at 32 t at ≡ IsNot place → (vs : List ℕ) → Walked (a_line w) t from vs (Stops place)
-    in_line_stops place e vs = leaves (walk_is_not x.walking space (λ v. a_line (w - j - 1)) asks place e)
+pub in_line_end : {t : List ℕ} {from w at j : ℕ} {numbers : List ℕ} → InLine t from w numbers at j → w ≤ j → Arrives (a_line w) t from (λ ns vs. vs ≡ ns) numbers at
+in_line_end {w = w} {j = j} {numbers = numbers} x h = record {
+  numbers = numbers;
+  told = refl;
+  walked = walk_same x.walking (take_all _ numbers (omega (arith, x.size))) (let e : w - j ≡ 0 = omega arith in same_line e);
+}
 
-  module _ (h : w ≤ j + 1) where
-    asks_last : (s : Script) → a_line (w - j) s ≡ num line (λ v. s)
-    asks_last s = asks_line (w - j) (omega (arith, x.within)) s
+-- lines one after the other: the next one, and none
+pub asks_lines : (w n i : ℕ) → i < n → (s : Script) → some_lines (n - i) w s ≡ a_line w (some_lines (n - (i + 1)) w s)
+asks_lines w n i h s = let e : n - i ≡ suc (n - (i + 1)) = omega arith in ap (λ m. some_lines m w s) e
 
-    pub last_is : (v next : ℕ) → number_at 10 t at ≡ Is v next → Walked (a_line w) t from (take w (set numbers j v)) (To next)
-    last_is v next e = arrives (walk_same (walk_is x.walking line (λ v s. s) asks_last v next e) (stored v ∙ (let e : j + 1 ≡ w = omega (arith, x.within) in ap (λ k. take k (set numbers j v)) e)) (λ s. refl))
+pub no_lines : (w n i : ℕ) → n ≤ i → (s : Script) → some_lines (n - i) w s ≡ s
+no_lines w n i h s = let e : n - i ≡ 0 = omega arith in ap (λ m. some_lines m w s) e
 
-    pub last_stops : (place : ℕ) → number_at 10 t at ≡ IsNot place → (vs : List ℕ) → Walked (a_line w) t from vs (Stops place)
-    last_stops place e vs = leaves (walk_is_not x.walking line (λ v s. s) asks_last place e)
+pub all_lines : (w n : ℕ) (s : Script) → some_lines n w s ≡ some_lines (n - 0) w s
+all_lines w n s = let e : n ≡ n - 0 = omega arith in ap (λ m. some_lines m w s) e
 
--- lines one after the other
-pub asks_lines : (w left : ℕ) → 0 < left → (s : Script) → some_lines left w s ≡ a_line w (some_lines (left - 1) w s)
-asks_lines w zero h s = absurd (omega arith)
-asks_lines w (suc n) h s = let e : n ≡ suc n - 1 = omega arith in ap (λ m. a_line w (some_lines m w s)) e
+pub in_lines_start : {t : List ℕ} {from n w : ℕ} → InLines t from n w from 0
+in_lines_start {t} {from} {n} {w} = record { within = omega arith; numbers = []; walking = walk_same (walk_start (some_lines n w) t from) refl (all_lines w n) }
 
-pub no_lines : (w left : ℕ) → left ≤ 0 → (s : Script) → some_lines left w s ≡ s
-no_lines w zero h s = refl
-no_lines w (suc n) h s = absurd (omega arith)
+module _ {t u : List ℕ} {from n w at i : ℕ} (x : InLines t from n w at i) (same : u ≡ t) where
+  pub in_lines_next : i < n → {A : Type 0} {Told : A → List ℕ → Type 0} {a : A} {next : ℕ} → Arrives (a_line w) u at Told a next → InLines t from n w next (i + 1)
+  in_lines_next h {Told = Told} {a = a} {next = next} z = let y = subst (λ v. Arrives (a_line w) v at Told a next) same z in record { within = omega arith; numbers = x.numbers ++ y.numbers; walking = walk_on x.walking (a_line w) (some_lines (n - (i + 1)) w) (asks_lines w n i h) y.numbers next y.walked }
 
-pub in_lines_start : {t : List ℕ} {from n w : ℕ} → InLines t from n w from n
-in_lines_start {t} {from} {n} {w} = record { numbers = []; walking = walk_start (some_lines n w) t from }
+  pub in_lines_stops : i < n → {stray : Stray} → Strays (a_line w) u at stray → Strays (some_lines n w) t from stray
+  in_lines_stops h {stray} y = walk_stops x.walking (a_line w) (some_lines (n - (i + 1)) w) (asks_lines w n i h) (subst (λ v. Strays (a_line w) v at stray) same y)
 
-module _ {t : List ℕ} {from n w at left : ℕ} (x : InLines t from n w at left) where
-  pub in_lines_next : 0 < left → (vs : List ℕ) (next : ℕ) → Walking (a_line w) t at vs (λ s. s) next → InLines t from n w next (left - 1)
-  in_lines_next h vs next y = record { numbers = x.numbers ++ vs; walking = walk_on x.walking (a_line w) (some_lines (left - 1) w) (asks_lines w left h) vs next y }
-
-  pub in_lines_stops : 0 < left → (place : ℕ) → ((s : Script) → read (a_line w s) at 0 0 (drop at t) ≡ stop place) → Passed (some_lines n w) t from (Stops place)
-  in_lines_stops h place y = record { numbers = []; walked = leaves (walk_stops x.walking (a_line w) (some_lines (left - 1) w) (asks_lines w left h) place y) }
-
-  pub in_lines_end : left ≤ 0 → Passed (some_lines n w) t from (To at)
-  in_lines_end h = record { numbers = x.numbers; walked = arrives (walk_same x.walking refl (no_lines w left h)) }
-
--- a section: its count, and then its lines
-pub section_stops : {t : List ℕ} {from w place : ℕ} → number_at 10 t from ≡ IsNot place → Passed (section w) t from (Stops place)
-section_stops {t} {from} {w} {place} e = record { numbers = []; walked = leaves (walk_is_not (walk_start (section w) t from) line (λ n. some_lines n w) (λ s. refl) place e) }
-
-pub section_passed : {t : List ℕ} {from w n next : ℕ} → number_at 10 t from ≡ Is n next → {r : Walk} → Passed (some_lines n w) t next r → Passed (section w) t from r
-section_passed {t} {from} {w} {n} {next} e p =
-    let x = walk_is (walk_start (section w) t from) line (λ n. some_lines n w) (λ s. refl) n next e in
-    record { numbers = n ∷ p.numbers; walked = walk_both x (some_lines n w) (λ s. refl) p.walked }
+pub in_lines_end : {t : List ℕ} {from n w at i : ℕ} → InLines t from n w at i → n ≤ i → Passed (some_lines n w) t from at
+in_lines_end {n = n} {w = w} {i = i} x h = record { numbers = x.numbers; walked = walk_same x.walking refl (no_lines w n i h) }

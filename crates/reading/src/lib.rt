@@ -3,393 +3,167 @@
 // It promises that each walk goes as the grammar's reading does: on to the place behind what was asked for, or to the place where the text leaves the grammar.
 #![tactic(auto)]
 
-ghost use Rattle.std.specs.Prelude.{◌≡◌, ◌≢◌, [], ◌∷◌, ◌≤◌, ◌<◌, length, take};
+ghost use Rattle.std.specs.Prelude.{◌≡◌, ◌∷◌, ◌≤◌, length};
 ghost use Rattle.rules.specs.Limits.{types_most, pieces_most};
 ghost use Rattle.rules.specs.Text.{a_line, some_lines, section};
-ghost use Rattle.reading.specs.Walked.{Walked, Passed};
-ghost use Rattle.reading.specs.Sections.{sheet_items, count_items, some_sheets, one_sheet, sheets_and_pieces, Part};
-ghost use Rattle.reading.specs.Placements.{numbers_of_placements, no_numbers, PlacementsRead, PlacementsPart};
-ghost use Rattle.reading.specs.Pieces.{no_types, no_job, PiecesRead};
+ghost use Rattle.reading.specs.Walked.{Reads, Passes};
+ghost use Rattle.reading.specs.Sections.{some_sheets, one_sheet, sheets_and_pieces, Holds};
+ghost use Rattle.reading.specs.Placements.{numbers_of_placements, PlacementLines, Listed, PlacementsOf};
+ghost use Rattle.reading.specs.Pieces.{PieceLines, PiecesOf};
 
-use reader::{LF, Numeral, SPACE, number_at};
-use shapes::{Job, PIECES_MOST, PLAN_NUMBERS, PieceType, TYPES_MOST};
+use reader::{LF, Reader, SPACE, Stray};
+use shapes::{Job, NO_TYPE, PIECES_MOST, PLACEMENT_NUMBERS, PLAN_NUMBERS, PieceType, TYPES_MOST};
 
-// Where the reading position has come: behind what was asked for, or to the place where the text leaves the grammar.
-#[derive(Clone, Copy)]
-pub enum Walk {
-    To(usize),
-    Stops(usize),
-}
-
-// The numbers of a line, in front of the array.
-#[derive(Clone, Copy)]
-struct LineRead {
-    walk: Walk,
-    numbers: [u64; 4],
-}
-
-// A line of w numbers.
-fn line(text: &[u8], from: usize, w: usize) -> LineRead
-    requires { (0 < w) × (w ≤ 4) }
-    ensures { Walked (a_line w) text.now from (take w result.numbers) result.walk }
+// A line of W numbers.
+fn line<const W: usize>(r: &mut Reader<'_>) -> Result<[u64; W], Stray>
+    ensures text { r.new.text ≡ r.old.text }
+    ensures read { Reads (a_line W) r.old.text.now r.old.at (λ numbers vs. vs ≡ numbers) result r.new.at }
 {
-    let mut numbers = [0u64; 4];
-    let mut at = from;
-    let mut j = 0;
-    while j + 1 < w {
-        match number_at(text, at, SPACE) {
-            Numeral::IsNot(place) => {
-                return LineRead {
-                    walk: Walk::Stops(place),
-                    numbers,
-                };
-            }
-            Numeral::Is(v, next) => {
-                numbers[j] = v;
-                at = next;
-            }
-        }
-        j += 1;
+    let mut numbers = [0; W];
+    for j in 0..W {
+        let end = if j + 1 < W { SPACE } else { LF };
+        numbers[j] = r.number(end)?;
     }
-    match number_at(text, at, LF) {
-        Numeral::IsNot(place) => LineRead {
-            walk: Walk::Stops(place),
-            numbers,
-        },
-        Numeral::Is(v, next) => {
-            numbers[j] = v;
-            LineRead {
-                walk: Walk::To(next),
-                numbers,
-            }
-        }
-    }
+    Ok(numbers)
 }
 
-// Lines of w numbers that nobody needs: a count may be any number, so nothing is kept of them.
-fn skip_lines(text: &[u8], from: usize, n: u64, w: usize) -> Walk
-    requires { (0 < w) × (w ≤ 4) }
-    ensures { Passed (some_lines n w) text.now from result }
+// Lines of W numbers that nobody needs: a count may be any number, so nothing is kept of them.
+fn skip_lines<const W: usize>(r: &mut Reader<'_>, n: u64) -> Result<(), Stray>
+    requires { W ≤ 4 }
+    ensures text { r.new.text ≡ r.old.text }
+    ensures passed { Passes (some_lines n W) r.old.text.now r.old.at result r.new.at }
 {
-    let mut at = from;
-    let mut left = n;
-    while 0 < left {
-        let l = line(text, at, w);
-        let walk = l.walk;
-        match walk {
-            Walk::Stops(place) => {
-                return Walk::Stops(place);
-            }
-            Walk::To(next) => {
-                at = next;
-            }
-        }
-        left -= 1;
+    for i in 0..n {
+        line::<W>(r)?;
     }
-    Walk::To(at)
+    Ok(())
 }
 
 // A whole section of such lines behind its count.
-fn skip_section(text: &[u8], from: usize, w: usize) -> Walk
-    requires { (0 < w) × (w ≤ 4) }
-    ensures { Passed (section w) text.now from result }
+fn skip_section<const W: usize>(r: &mut Reader<'_>) -> Result<(), Stray>
+    requires { W ≤ 4 }
+    ensures text { r.new.text ≡ r.old.text }
+    ensures passed { Passes (section W) r.old.text.now r.old.at result r.new.at }
 {
-    match number_at(text, from, LF) {
-        Numeral::IsNot(place) => Walk::Stops(place),
-        Numeral::Is(n, next) => skip_lines(text, next, n, w),
-    }
-}
-
-// A sheet line `L W k`.
-#[derive(Clone, Copy)]
-struct Sheet {
-    length: u64,
-    width: u64,
-    kerf: u64,
-}
-
-// The sheet and piece sections: how far the walk came, the sheet count, and the job, where the sheet count is 1.
-#[derive(Clone, Copy)]
-pub struct Sections {
-    pub walk: Walk,
-    pub sheets: u64,
-    pub job: Job,
-}
-
-// No types: what stands past the piece count.
-fn no_types() -> [PieceType; TYPES_MOST]
-    ensures { result ≡ no_types }
-{
-    [PieceType {
-        length: 0,
-        width: 0,
-        profit: 0,
-        demand: 0,
-    }; TYPES_MOST]
-}
-
-pub fn no_job() -> Job
-    ensures { result ≡ no_job }
-{
-    let types = no_types();
-    Job {
-        length: 0,
-        width: 0,
-        kerf: 0,
-        count: 0,
-        types,
-    }
-}
-
-#[derive(Clone, Copy)]
-struct PieceLines {
-    walk: Walk,
-    types: [PieceType; TYPES_MOST],
+    let n = r.count()?;
+    skip_lines::<W>(r, n)
 }
 
 // Piece lines `l w p b` as many as the job has room for.
-fn piece_lines(text: &[u8], from: usize, n: usize) -> PieceLines
+fn piece_lines(r: &mut Reader<'_>, n: usize) -> Result<[PieceType; TYPES_MOST], Stray>
     requires { n ≤ types_most }
-    ensures { PiecesRead text.now from n result.walk result.types }
+    ensures text { r.new.text ≡ r.old.text }
+    ensures read { Reads (some_lines n 4) r.old.text.now r.old.at (PieceLines n) result r.new.at }
 {
-    let mut types = no_types();
-    let mut at = from;
-    let mut i = 0;
-    while i < n {
-        let l = line(text, at, 4);
-        let walk = l.walk;
-        match walk {
-            Walk::Stops(place) => {
-                return PieceLines {
-                    walk: Walk::Stops(place),
-                    types,
-                };
-            }
-            Walk::To(next) => {
-                at = next;
-            }
-        }
+    let mut types = [NO_TYPE; TYPES_MOST];
+    for i in 0..n {
+        let [length, width, profit, demand] = line::<4>(r)?;
         types[i] = PieceType {
-            length: l.numbers[0],
-            width: l.numbers[1],
-            profit: l.numbers[2],
-            demand: l.numbers[3],
+            length,
+            width,
+            profit,
+            demand,
         };
-        i += 1;
     }
-    PieceLines {
-        walk: Walk::To(at),
+    Ok(types)
+}
+
+// The piece section: the piece count, and the types where a job has room for them. More are out of range, so that nobody needs their lines.
+fn pieces(r: &mut Reader<'_>) -> Result<(u64, [PieceType; TYPES_MOST]), Stray>
+    ensures text { r.new.text ≡ r.old.text }
+    ensures read { Reads (section 4) r.old.text.now r.old.at PiecesOf result r.new.at }
+{
+    let count = r.count()?;
+    if count <= TYPES_MOST as u64 {
+        let types = piece_lines(r, count as usize)?;
+        return Ok((count, types));
+    }
+    skip_lines::<4>(r, count)?;
+    Ok((count, [NO_TYPE; TYPES_MOST]))
+}
+
+// The one sheet line `L W k`, and the pieces behind it.
+fn one_sheet(r: &mut Reader<'_>) -> Result<Job, Stray>
+    ensures text { r.new.text ≡ r.old.text }
+    ensures read { Reads one_sheet r.old.text.now r.old.at (λ job vs. Holds (Some job) (1 ∷ vs)) result r.new.at }
+{
+    let [length, width, kerf] = line::<3>(r)?;
+    let (count, types) = pieces(r)?;
+    Ok(Job {
+        length,
+        width,
+        kerf,
+        count,
         types,
-    }
-}
-
-// The piece section behind the sheet. More pieces than a job has room for are out of range, so that nobody needs their lines.
-fn pieces(text: &[u8], from: usize, sheet: Sheet) -> Sections
-    ensures { Part (section 4) (sheet_items sheet) text.now from result.walk result.sheets result.job }
-{
-    match number_at(text, from, LF) {
-        Numeral::IsNot(place) => stopped(place),
-        Numeral::Is(count, next) => {
-            if count <= TYPES_MOST as u64 {
-                return counted_pieces(text, next, sheet, count);
-            }
-            more_pieces(text, next, sheet, count)
-        }
-    }
-}
-
-fn stopped(place: usize) -> Sections
-    ensures { (result.walk ≡ Walk.Stops place) × (result.sheets ≡ 0) × (result.job ≡ no_job) }
-{
-    let job = no_job();
-    Sections {
-        walk: Walk::Stops(place),
-        sheets: 0,
-        job,
-    }
-}
-
-fn counted_pieces(text: &[u8], from: usize, sheet: Sheet, count: u64) -> Sections
-    requires { count ≤ types_most }
-    ensures { Part (some_lines count 4) (count_items sheet count) text.now from result.walk result.sheets result.job }
-{
-    let read = piece_lines(text, from, count as usize);
-    let walk = read.walk;
-    let types = read.types;
-    Sections {
-        walk,
-        sheets: 1,
-        job: Job {
-            length: sheet.length,
-            width: sheet.width,
-            kerf: sheet.kerf,
-            count,
-            types,
-        },
-    }
-}
-
-fn more_pieces(text: &[u8], from: usize, sheet: Sheet, count: u64) -> Sections
-    requires { types_most < count }
-    ensures { Part (some_lines count 4) (count_items sheet count) text.now from result.walk result.sheets result.job }
-{
-    let walk = skip_lines(text, from, count, 4);
-    let types = no_types();
-    Sections {
-        walk,
-        sheets: 1,
-        job: Job {
-            length: sheet.length,
-            width: sheet.width,
-            kerf: sheet.kerf,
-            count,
-            types,
-        },
-    }
-}
-
-fn one_sheet(text: &[u8], from: usize) -> Sections
-    ensures { Part (one_sheet) (1 ∷ []) text.now from result.walk result.sheets result.job }
-{
-    let l = line(text, from, 3);
-    let walk = l.walk;
-    match walk {
-        Walk::Stops(place) => stopped(place),
-        Walk::To(next) => pieces(
-            text,
-            next,
-            Sheet {
-                length: l.numbers[0],
-                width: l.numbers[1],
-                kerf: l.numbers[2],
-            },
-        ),
-    }
+    })
 }
 
 // Another sheet count than 1 is out of range, whatever the lines hold.
-fn other_sheets(text: &[u8], from: usize, sheets: u64) -> Sections
-    requires { sheets ≢ 1 }
-    ensures { Part (some_sheets sheets) (sheets ∷ []) text.now from result.walk result.sheets result.job }
+fn other_sheets(r: &mut Reader<'_>, sheets: u64) -> Result<(), Stray>
+    ensures text { r.new.text ≡ r.old.text }
+    ensures passed { Passes (some_sheets sheets) r.old.text.now r.old.at result r.new.at }
 {
-    let lines = skip_lines(text, from, sheets, 3);
-    match lines {
-        Walk::Stops(place) => stopped(place),
-        Walk::To(next) => {
-            let walk = skip_section(text, next, 4);
-            let job = no_job();
-            Sections { walk, sheets, job }
-        }
-    }
+    skip_lines::<3>(r, sheets)?;
+    skip_section::<4>(r)
 }
 
-// The two sections that job texts and plan texts begin with.
-pub fn two_sections(text: &[u8]) -> Sections
-    ensures { Part sheets_and_pieces [] text.now 0 result.walk result.sheets result.job }
+// The two sections that job texts and plan texts begin with: the job, where the sheet count is 1.
+pub fn two_sections(r: &mut Reader<'_>) -> Result<Option<Job>, Stray>
+    ensures text { r.new.text ≡ r.old.text }
+    ensures read { Reads sheets_and_pieces r.old.text.now r.old.at Holds result r.new.at }
 {
-    match reader::first_count(text) {
-        Numeral::IsNot(place) => stopped(place),
-        Numeral::Is(sheets, next) => {
-            if sheets == 1 {
-                return one_sheet(text, next);
-            }
-            other_sheets(text, next, sheets)
-        }
+    let sheets = r.count()?;
+    if sheets == 1 {
+        let job = one_sheet(r)?;
+        return Ok(Some(job));
     }
+    other_sheets(r, sheets)?;
+    Ok(None)
 }
 
 // Placement lines `type x y`, as flat numbers.
-fn placement_lines(text: &[u8], from: usize, n: usize, numbers: &mut [u64]) -> Walk
+fn placement_lines(r: &mut Reader<'_>, n: usize, numbers: &mut [u64]) -> Result<(), Stray>
     requires { numbers_of_placements n ≤ length numbers.old }
-    ensures { PlacementsRead text.now from n numbers.old numbers.new result }
+    ensures text { r.new.text ≡ r.old.text }
+    ensures read { PlacementLines r.old.text.now r.old.at n numbers.old numbers.new result r.new.at }
 {
-    let mut at = from;
-    let mut i = 0;
-    let mut j = 0;
-    while i < n {
-        let l = line(text, at, 3);
-        let walk = l.walk;
-        match walk {
-            Walk::Stops(place) => {
-                return Walk::Stops(place);
-            }
-            Walk::To(next) => {
-                at = next;
-            }
-        }
-        numbers[j] = l.numbers[0];
-        numbers[j + 1] = l.numbers[1];
-        numbers[j + 2] = l.numbers[2];
-        j += 3;
-        i += 1;
+    for i in 0..n {
+        let line = line::<PLACEMENT_NUMBERS>(r)?;
+        let j = i * PLACEMENT_NUMBERS;
+        let end = j + PLACEMENT_NUMBERS;
+        numbers[j..end].copy_from_slice(&line);
     }
-    Walk::To(at)
+    Ok(())
 }
 
-// The placement section: how far the walk came, the count, and the flat numbers, where the count is in range.
+fn listed(r: &mut Reader<'_>, count: usize) -> Result<[u64; PLAN_NUMBERS], Stray>
+    requires { count ≤ pieces_most }
+    ensures text { r.new.text ≡ r.old.text }
+    ensures read { Reads (some_lines count 3) r.old.text.now r.old.at (Listed count) result r.new.at }
+{
+    let mut numbers = [0; PLAN_NUMBERS];
+    placement_lines(r, count, &mut numbers)?;
+    Ok(numbers)
+}
+
+// The placement section: the count, and the flat numbers, where the count is in range.
 #[derive(Clone, Copy)]
 pub struct Placements {
-    pub walk: Walk,
     pub count: u64,
     pub numbers: [u64; PLAN_NUMBERS],
 }
 
-fn no_placements(place: usize) -> Placements
-    ensures { (result.walk ≡ Walk.Stops place) × (result.count ≡ 0) × (result.numbers ≡ no_numbers) }
-{
-    let numbers = [0u64; PLAN_NUMBERS];
-    Placements {
-        walk: Walk::Stops(place),
-        count: 0,
-        numbers,
-    }
-}
-
-fn listed(text: &[u8], from: usize, count: u64) -> Placements
-    requires { count ≤ pieces_most }
-    ensures { PlacementsPart (some_lines count 3) (count ∷ []) text.now from result.walk result.count result.numbers }
-{
-    let mut numbers = [0u64; PLAN_NUMBERS];
-    let walk = placement_lines(text, from, count as usize, &mut numbers);
-    match walk {
-        Walk::Stops(place) => no_placements(place),
-        Walk::To(next) => Placements {
-            walk: Walk::To(next),
-            count,
-            numbers,
-        },
-    }
-}
-
 // More placements than a plan may have are out of range, so that nobody needs their lines.
-fn unlisted(text: &[u8], from: usize, count: u64) -> Placements
-    requires { pieces_most < count }
-    ensures { PlacementsPart (some_lines count 3) (count ∷ []) text.now from result.walk result.count result.numbers }
+pub fn placement_section(r: &mut Reader<'_>) -> Result<Placements, Stray>
+    ensures text { r.new.text ≡ r.old.text }
+    ensures read { Reads (section 3) r.old.text.now r.old.at PlacementsOf result r.new.at }
 {
-    let walk = skip_lines(text, from, count, 3);
-    match walk {
-        Walk::Stops(place) => no_placements(place),
-        Walk::To(next) => {
-            let numbers = [0u64; PLAN_NUMBERS];
-            Placements {
-                walk: Walk::To(next),
-                count,
-                numbers,
-            }
-        }
+    let count = r.count()?;
+    if count <= PIECES_MOST as u64 {
+        let numbers = listed(r, count as usize)?;
+        return Ok(Placements { count, numbers });
     }
-}
-
-pub fn placement_section(text: &[u8], from: usize) -> Placements
-    ensures { PlacementsPart (section 3) [] text.now from result.walk result.count result.numbers }
-{
-    match number_at(text, from, LF) {
-        Numeral::IsNot(place) => no_placements(place),
-        Numeral::Is(count, next) => {
-            if count <= PIECES_MOST as u64 {
-                return listed(text, next, count);
-            }
-            unlisted(text, next, count)
-        }
-    }
+    skip_lines::<3>(r, count)?;
+    let numbers = [0; PLAN_NUMBERS];
+    Ok(Placements { count, numbers })
 }

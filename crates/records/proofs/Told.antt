@@ -1,37 +1,34 @@
 -- What is found of a list of records, one placement after the other, and the answer at its end. Assumes nothing.
 use mathlib.Core.Path.{◌≡◌, refl, sym, ap, ◌∙◌, subst}
-use mathlib.Core.Bool.{Bool, true, false}
+use mathlib.Core.Bool.{Bool, true, false, true≢false}
 use mathlib.Core.List.{List, [], ◌∷◌, ◌++◌}
 use Prim.Native.Nat.{ℕ, zero, suc, ◌+◌, ◌*◌, ◌-◌, ◌≤◌, ◌<◌}
 use native.Mathlib.Omega.{arith}
 use lib.ListN.{length, get_or, take, replicate, length-append, length-replicate}
-use lib.Dec.{ltb, eqb}
-use borrow.Author.Tests.{le-leb, lt-leb, lt-ltb, le-ltb, ltb-true, ltb-false}
+use lib.Dec.{eqb}
+use borrow.Author.Tests.{le-leb, lt-leb}
 use Rattle.rules.specs.Limits.{types_most, pieces_most}
 use Rattle.rules.specs.Bag.{count}
 use Rattle.rules.specs.Items.{numbers_from}
 use Rattle.rules.specs.Placed.{of_type}
 use Rattle.rules.specs.Numbers.{Numbers, PieceType, Entry, no_type}
 use Rattle.rules.specs.Checker.{not_a_type, off_sheet, above_demand}
-use Rattle.rules.specs.Answers.{outside, CheckNumbers}
+use Rattle.rules.specs.Answers.{CheckNumbers}
 use Rattle.shapes.specs.Answer.{check_answer}
 use Rattle.shapes.specs.Handed.{items_of, numbers_of, entry_of, JobInRange}
 use Rattle.shapes.specs.declared.Job.{Job}
 use Rattle.shapes.specs.declared.Placement.{Placement}
 use Rattle.shapes.specs.declared.PieceType as declared
-use Rattle.shapes.specs.declared.CheckVerdict.{CheckVerdict}
-use Rattle.shapes.specs.declared.CheckVerdict.TheVariants.{Rejected}
-use Rattle.shapes.specs.declared.Refusal.TheVariants as refusal
+use Rattle.std.specs.Prelude.{Option, Some, None, Result, Err, is_some}
+use Rattle.shapes.specs.declared.Drawing.{Drawing}
+use Rattle.shapes.specs.declared.Refusal.{Refusal}
+use Rattle.shapes.specs.declared.Refusal.TheVariants.{NotAType, OffSheet}
 use Rattle.jobs.proofs.Fine.{count_fine, same_numbers, job_in_range}
 use Rattle.placing.specs.Place.{NoneAt, OfJob, TypeOf}
-use Rattle.placing.specs.declared.Place.TheVariants.{At}
-use Rattle.placing.proofs.Tests.{of_type_lem}
-use Rattle.placing.proofs.Types.{few_entries}
+use Rattle.placing.proofs.Types.{of_type_lem, few_entries}
 use Rattle.checking.proofs.Verdict.{rejected_6, rejected_7, rejected_8, verdict_in_range}
 use Rattle.records.specs.declared.Scan.{Scan}
-use Rattle.records.specs.declared.Found.{Found}
-use Rattle.records.specs.declared.Found.TheVariants.{Clean, OutOfRange, NotAType, OffSheet, AboveDemand}
-use Rattle.records.specs.Scan.{flat_of, behind, Began, bad, good, Tested, no_type_lem, off, above, passes, rank_of, choose, sooner_of, Keeps, Kept, Short, Alive, Holding, FirstIs, Told, out, six, seven, eight, clean, Scanning, Reached, Steps, Ends}
+use Rattle.records.specs.Scan.{flat_of, behind, InRange, Tested, no_type_lem, off, above, passes, sooner_of, Keeps, Kept, Alive, Holding, FirstIs, Told, six, seven, eight, clean, Scanning, Reached, Steps, Ends}
 use Rattle.records.proofs.Places.{length-flat, place_kept, place_none, place_here}
 use Rattle.records.proofs.Kept.{holding_next}
 
@@ -60,23 +57,19 @@ module _ (j : Job) (ps : List Placement) (s : Scan) (p : Placement) where
   -- the state r, in which one placement more is seen
   module _ (r : Scan) (next : r.seen ≡ s.seen + 1) where
     alive_next : Alive j ps s → Alive j (ps ++ (p ∷ [])) r
-    alive_next a = record { fine = a.fine; none_out = a.none_out; seen = omega (arith, a.seen, length-append ps (p ∷ [])) }
+    alive_next a = record { fine = a.fine; in_range = a.in_range; seen = omega (arith, a.seen, length-append ps (p ∷ [])) }
 
     here : (f : List Entry → Entry → Bool) → Alive j ps s → NoneAt f (flat_of ps) → f (behind ps) (entry_of p) ≡ true → FirstIs f (ps ++ (p ∷ [])) s.seen
     here f a h e = subst (FirstIs f (ps ++ (p ∷ []))) (sym a.seen) (place_here f ps p h e)
 
-    here_6 : Alive j ps s → NoneAt (not_a_type n) (flat_of ps) → not_a_type n [] (entry_of p) ≡ true → Told j (ps ++ (p ∷ [])) r (NotAType s.seen)
+    here_6 : Alive j ps s → NoneAt (not_a_type n) (flat_of ps) → not_a_type n [] (entry_of p) ≡ true → Told j (ps ++ (p ∷ [])) r (Some (NotAType s.seen))
     here_6 a h e = six (alive_next a) (here (not_a_type n) a h e)
 
-    here_7 : Alive j ps s → NoneAt (not_a_type n) (flat_of ps) → NoneAt (off_sheet n) (flat_of ps) → not_a_type n [] (entry_of p) ≡ false → off_sheet n [] (entry_of p) ≡ true → Told j (ps ++ (p ∷ [])) r (OffSheet s.seen)
+    here_7 : Alive j ps s → NoneAt (not_a_type n) (flat_of ps) → NoneAt (off_sheet n) (flat_of ps) → not_a_type n [] (entry_of p) ≡ false → off_sheet n [] (entry_of p) ≡ true → Told j (ps ++ (p ∷ [])) r (Some (OffSheet s.seen))
     here_7 a h k e f = seven (alive_next a) (none_6 h e) (here (off_sheet n) a k f)
 
     -- the old finding and the new one: the sooner of the two
-    pub told_next : {old new : Found} → Told j ps s old → Tested j s.counts p s.seen new → (old ≡ Clean → new ≡ Clean → Holding (ps ++ (p ∷ [])) r) → Told j (ps ++ (p ∷ [])) r (sooner_of old new)
-    told_next (out e) (no_type_lem f) h = out e
-    told_next (out e) (off f g) h = out e
-    told_next (out e) (above f g is l) h = out e
-    told_next (out e) (passes f g is l) h = out e
+    pub told_next : {old new : Option Refusal} → Told j ps s old → Tested j s.counts p s.seen new → (old ≡ None → new ≡ None → Holding (ps ++ (p ∷ [])) r) → Told j (ps ++ (p ∷ [])) r (sooner_of old new)
     told_next (six a e) (no_type_lem f) h = six (alive_next a) (place_kept (not_a_type n) ps p e)
     told_next (six a e) (off f g) h = six (alive_next a) (place_kept (not_a_type n) ps p e)
     told_next (six a e) (above f g is l) h = six (alive_next a) (place_kept (not_a_type n) ps p e)
@@ -97,7 +90,7 @@ module _ (j : Job) (ps : List Placement) (s : Scan) (p : Placement) where
     told_next (clean a b c d k) (passes f g is l) h = clean (alive_next a) (none_6 b f) (none_7 c g) (none_8 a k d f is l) (h refl refl)
 
   -- a clean list with one placement more that passes is still short
-  pub keeps_one : Told j ps s Clean → Tested j s.counts p s.seen Clean → Keeps s p
+  pub keeps_one : Told j ps s None → Tested j s.counts p s.seen None → Keeps s p
   keeps_one (clean a b c d k) (passes f g is l) =
       let o = of_type_lem j a.fine p f in
       let few = few_entries {j = j} {flat = flat_of (ps ++ (p ∷ []))} (record { typed = record { fine = a.fine; typed = none_6 b f }; demand = none_8 a k d f is l }) in
@@ -108,156 +101,100 @@ module _ (j : Job) (ps : List Placement) (s : Scan) (p : Placement) where
         room = omega (arith, few, length-flat (ps ++ (p ∷ [])), length-append ps (p ∷ []), a.seen);
       }
 
-pub choose_new : (old new : Found) → rank_of new < rank_of old → new ≡ sooner_of old new
-choose_new old new h = sym (ap (λ t. choose t new old) (lt-ltb (rank_of new) (rank_of old) h))
-
-pub choose_old : (old new : Found) → rank_of old ≤ rank_of new → old ≡ sooner_of old new
-choose_old old new h = sym (ap (λ t. choose t new old) (le-ltb (rank_of new) (rank_of old) h))
-
 -- the sooner of two findings is nothing only if both are
-last_rank : (f : Found) → 11 ≤ rank_of f → f ≡ Clean
-last_rank Clean h = refl
-last_rank (OutOfRange i) h = absurd (omega arith)
-last_rank (NotAType i) h = absurd (omega arith)
-last_rank (OffSheet i) h = absurd (omega arith)
-last_rank (AboveDemand i) h = absurd (omega arith)
+both_none : (old new : Option Refusal) → sooner_of old new ≡ None → (old ≡ None) × (new ≡ None)
+both_none None new e = (refl, e)
+both_none (Some a) None e = absurd (true≢false (ap is_some e))
+both_none (Some a) (Some b) e = absurd (true≢false (ap is_some e))
 
-pub both_clean : (old new : Found) → sooner_of old new ≡ Clean → (old ≡ Clean) × (new ≡ Clean)
-both_clean old new e = go (ltb (rank_of new) (rank_of old)) refl (ap rank_of e)
-  where
-    top : (f : Found) → rank_of f ≤ 11
-    top Clean = omega arith
-    top (OutOfRange i) = omega arith
-    top (NotAType i) = omega arith
-    top (OffSheet i) = omega arith
-    top (AboveDemand i) = omega arith
+alive : {j : Job} {ps : List Placement} {s : Scan} {f : Option Refusal} → Told j ps s f → Alive j ps s
+alive (six a h) = a
+alive (seven a b h) = a
+alive (eight a b c h) = a
+alive (clean a b c d h) = a
 
-    go : (t : Bool) → ltb (rank_of new) (rank_of old) ≡ t → rank_of (choose t new old) ≡ 11 → (old ≡ Clean) × (new ≡ Clean)
-    go true q z = absurd (omega (arith, ltb-true (rank_of new) (rank_of old) q, top old))
-    go false q z = (last_rank old (omega arith), last_rank new (omega (arith, ltb-false (rank_of new) (rank_of old) q)))
+pub job_fine : {s : Scan} → Reached s → JobInRange s.job
+job_fine {s} c = subst JobInRange (sym c.scanning.job) (alive c.scanning.told).fine
 
-rank_out : (f : Found) → rank_of f ≡ 2 → (i : ℕ) × (f ≡ OutOfRange i)
-rank_out (OutOfRange i) e = (i, refl)
-rank_out Clean e = absurd (omega arith)
-rank_out (NotAType i) e = absurd (omega arith)
-rank_out (OffSheet i) e = absurd (omega arith)
-rank_out (AboveDemand i) e = absurd (omega arith)
+pub seen_is : {s : Scan} (c : Reached s) → s.seen ≡ length c.seen
+seen_is c = (alive c.scanning.told).seen
 
--- a job out of range: nothing is looked at
-pub steps_out : (s : Scan) (p : Placement) → rank_of s.found ≡ 2 → Steps s p s
-steps_out s p e = record { next = λ j ps c. record { job = c.job; told = same s.found e c.told } }
-  where
-    same : (f : Found) → rank_of f ≡ 2 → {j : Job} {ps : List Placement} → Told j ps s f → Told j (ps ++ (p ∷ [])) s f
-    same f e (out h) = out h
-    same f e (six a h) = absurd (omega arith)
-    same f e (seven a b h) = absurd (omega arith)
-    same f e (eight a b c h) = absurd (omega arith)
-    same f e (clean a b c d h) = absurd (omega arith)
-
-alive : {j : Job} {ps : List Placement} {s : Scan} {f : Found} → Told j ps s f → (rank_of f ≡ 2 → ⊥) → Alive j ps s
-alive (out h) e = absurd (e refl)
-alive (six a h) e = a
-alive (seven a b h) e = a
-alive (eight a b c h) e = a
-alive (clean a b c d h) e = a
-
-pub job_fine : {s : Scan} → Reached s → (rank_of s.found ≡ 2 → ⊥) → JobInRange s.job
-job_fine {s} c e = subst JobInRange (sym c.scanning.job) (alive c.scanning.told e).fine
-
-pub seen_is : {s : Scan} (c : Reached s) → (rank_of s.found ≡ 2 → ⊥) → s.seen ≡ length c.seen
-seen_is c e = (alive c.scanning.told e).seen
-
-module _ (s : Scan) {p : Placement} {t b : Found} (tested : Tested s.job s.counts p s.seen t) (best : b ≡ sooner_of s.found t) where
+module _ (s : Scan) {p : Placement} {t b : Option Refusal} (tested : Tested s.job s.counts p s.seen t) (best : b ≡ sooner_of s.found t) where
   tested_for : {j : Job} {ps : List Placement} → Scanning j ps s → Tested j s.counts p s.seen t
   tested_for c = subst (λ (k : Job). Tested k s.counts p s.seen t) c.job tested
 
-  both : rank_of b ≡ 11 → (s.found ≡ Clean) × (t ≡ Clean)
-  both e = both_clean s.found t (sym best ∙ last_rank b (omega arith))
+  both : b ≡ None → (s.found ≡ None) × (t ≡ None)
+  both e = both_none s.found t (sym best ∙ e)
 
-  pub step_keeps : Reached s → rank_of b ≡ 11 → Keeps s p
+  pub step_keeps : Reached s → b ≡ None → Keeps s p
   step_keeps c e =
       let x = both e in
       keeps_one c.job c.seen s p (subst (Told c.job c.seen s) x.0 c.scanning.told) (subst (Tested c.job s.counts p s.seen) x.1 (tested_for c.scanning))
 
-  holding : {j : Job} {ps : List Placement} → Told j ps s Clean → Holding ps s × Alive j ps s
+  holding : {j : Job} {ps : List Placement} → Told j ps s None → Holding ps s × Alive j ps s
   holding (clean a b c d k) = (k, a)
 
-  pub steps_keep : rank_of b ≡ 11 → Keeps s p → {r : Scan} → Kept s p r → Steps s p r
-  steps_keep e keeps {r} k = record {
+  pub steps_keep : b ≡ None → {r : Scan} → Kept s p r → Steps s p r
+  steps_keep e {r} k = record {
     next = λ j ps c.
         let x = both e in
-        let y = holding (subst (Told j ps s) x.0 c.told) in
-        let z : sooner_of s.found t ≡ r.found = sym best ∙ last_rank b (omega arith) ∙ sym x.0 ∙ sym k.found in
+        let told = subst (Told j ps s) x.0 c.told in
+        let y = holding told in
+        let keeps = keeps_one j ps s p told (subst (Tested j s.counts p s.seen) x.1 (tested_for c)) in
+        let z : sooner_of s.found t ≡ r.found = sym best ∙ e ∙ sym x.0 ∙ sym k.found in
         record {
           job = k.job ∙ c.job;
           told = subst (Told j (ps ++ (p ∷ [])) r) z (told_next j ps s p r k.seen c.told (tested_for c) (λ _ _. holding_next y.0 y.1.seen keeps k));
         };
   }
 
-  pub steps_other : (rank_of b ≡ 11 → ⊥) → Steps s p (record { job = s.job; found = b; seen = s.seen + 1; counts = s.counts; flat = s.flat })
+  pub steps_other : {f : Refusal} → b ≡ Some f → Steps s p (record { job = s.job; found = b; seen = s.seen + 1; counts = s.counts; flat = s.flat })
   steps_other e =
       let r : Scan = record { job = s.job; found = b; seen = s.seen + 1; counts = s.counts; flat = s.flat } in
       record {
         next = λ j ps c. record {
           job = c.job;
-          told = subst (Told j (ps ++ (p ∷ [])) r) (sym best) (told_next j ps s p r refl c.told (tested_for c) (λ f g. absurd (e (ap rank_of (best ∙ ap (sooner_of s.found) g ∙ ap (λ h. sooner_of h Clean) f)))));
+          told = subst (Told j (ps ++ (p ∷ [])) r) (sym best) (told_next j ps s p r refl c.told (tested_for c) (λ f g. absurd (true≢false (ap is_some (sym e ∙ best ∙ ap (sooner_of s.found) g ∙ ap (λ h. sooner_of h None) f)))));
         };
       }
 
 -- the beginning
-pub scanning_start : (j : Job) {f : Found} → length j.types ≡ types_most → Began j f → (counts flat : List ℕ) → counts ≡ replicate types_most 0 → flat ≡ replicate (3 * pieces_most) 0 → Scanning j [] (record { job = j; found = f; seen = 0; counts = counts; flat = flat })
-scanning_start j {f} room b counts flat ec ef = record { job = refl; told = go f b }
+pub scanning_start : (j : Job) → length j.types ≡ types_most → InRange j → Scanning j [] (record { job = j; found = None; seen = 0; counts = replicate types_most 0; flat = replicate (3 * pieces_most) 0 })
+scanning_start j room e = record {
+  job = refl;
+  told = clean (record { fine = record { types = room; count = count_fine j room e; numbers = job_in_range j room e }; in_range = e; seen = refl }) refl refl refl
+      (record { types = length-replicate {A = ℕ} types_most 0; held = λ k h. zeros types_most k; room = length-replicate {A = ℕ} (3 * pieces_most) 0; flat = refl });
+}
   where
     zeros : (m k : ℕ) → ◌≡◌ {A = ℕ} (get_or (replicate m 0) k 0) 0
     zeros zero k = refl
     zeros (suc m) zero = refl
     zeros (suc m) (suc k) = zeros m k
 
-    go : (f : Found) → Began j f → Told j [] (record { job = j; found = f; seen = 0; counts = counts; flat = flat }) f
-    go f (bad e) = out e
-    go f (good e) =
-        clean (record { fine = record { types = room; count = count_fine j room e; numbers = job_in_range j room e }; none_out = e; seen = refl }) refl refl refl
-        (record { types = ap length ec ∙ length-replicate {A = ℕ} types_most 0; held = λ k h. ap (λ l. get_or l k 0) ec ∙ zeros types_most k; room = ap length ef ∙ length-replicate {A = ℕ} (3 * pieces_most) 0; flat = refl })
-
 -- the end
 module _ {s : Scan} where
   checked_in : {j : Job} {ps : List Placement} (a : Alive j ps s) → numbers_from (items_of j) ≡ numbers_of j
-  checked_in {j} a = same_numbers j a.fine.types a.none_out
+  checked_in {j} a = same_numbers j a.fine.types a.in_range
 
-  pub ends_out : {i : ℕ} → s.found ≡ OutOfRange i → Ends s (Rejected (refusal.OutOfRange i))
-  ends_out {i} e = record { answer = λ j ps c. go (subst (Told j ps s) e c.told) }
+  pub ends_found : {f : Refusal} → s.found ≡ Some f → Ends s (Err f)
+  ends_found {f} e = record { answer = λ j ps c. go j ps f (subst (Told j ps s) e c.told) }
     where
-      go : {j : Job} {ps : List Placement} → Told j ps s (OutOfRange i) → CheckNumbers (flat_of ps) (items_of j) (check_answer (Rejected (refusal.OutOfRange i)))
-      go (out h) = outside h
+      go : (j : Job) (ps : List Placement) (f : Refusal) → Told j ps s (Some f) → CheckNumbers (flat_of ps) (items_of j) (check_answer (Err f))
+      go j ps f (six {i = i} a h) = verdict_in_range j (flat_of ps) a.in_range (checked_in a) (rejected_6 (numbers_of j) (flat_of ps) {r = Some i} (sym h) refl)
+      go j ps f (seven {i = i} a b h) = verdict_in_range j (flat_of ps) a.in_range (checked_in a) (rejected_7 (numbers_of j) (flat_of ps) {r = Some i} b (sym h) refl)
+      go j ps f (eight {i = i} a b c h) = verdict_in_range j (flat_of ps) a.in_range (checked_in a) (rejected_8 (numbers_of j) (flat_of ps) {r = Some i} b c (sym h) refl)
 
-  pub ends_6 : {i : ℕ} → s.found ≡ NotAType i → Ends s (Rejected (refusal.NotAType i))
-  ends_6 {i} e = record { answer = λ j ps c. go j ps (subst (Told j ps s) e c.told) }
-    where
-      go : (j : Job) (ps : List Placement) → Told j ps s (NotAType i) → CheckNumbers (flat_of ps) (items_of j) (check_answer (Rejected (refusal.NotAType i)))
-      go j ps (six a h) = verdict_in_range j (flat_of ps) a.none_out (checked_in a) (rejected_6 (numbers_of j) (flat_of ps) {r = At i} (sym h) refl)
-
-  pub ends_7 : {i : ℕ} → s.found ≡ OffSheet i → Ends s (Rejected (refusal.OffSheet i))
-  ends_7 {i} e = record { answer = λ j ps c. go j ps (subst (Told j ps s) e c.told) }
-    where
-      go : (j : Job) (ps : List Placement) → Told j ps s (OffSheet i) → CheckNumbers (flat_of ps) (items_of j) (check_answer (Rejected (refusal.OffSheet i)))
-      go j ps (seven a b h) = verdict_in_range j (flat_of ps) a.none_out (checked_in a) (rejected_7 (numbers_of j) (flat_of ps) {r = At i} b (sym h) refl)
-
-  pub ends_8 : {i : ℕ} → s.found ≡ AboveDemand i → Ends s (Rejected (refusal.AboveDemand i))
-  ends_8 {i} e = record { answer = λ j ps c. go j ps (subst (Told j ps s) e c.told) }
-    where
-      go : (j : Job) (ps : List Placement) → Told j ps s (AboveDemand i) → CheckNumbers (flat_of ps) (items_of j) (check_answer (Rejected (refusal.AboveDemand i)))
-      go j ps (eight a b c h) = verdict_in_range j (flat_of ps) a.none_out (checked_in a) (rejected_8 (numbers_of j) (flat_of ps) {r = At i} b c (sym h) refl)
-
-  pub short : Reached s → s.found ≡ Clean → Short s
+  -- the flat numbers have room for what was seen
+  pub short : Reached s → s.found ≡ None → (s.seen ≤ pieces_most) × (length s.flat ≡ 3 * pieces_most)
   short c e = go c.job c.seen (subst (Told c.job c.seen s) e c.scanning.told)
     where
-      go : (j : Job) (ps : List Placement) → Told j ps s Clean → Short s
-      go j ps (clean a b c d k) = record { few = omega (arith, a.seen, length-flat ps, few_entries {j = j} {flat = flat_of ps} (record { typed = record { fine = a.fine; typed = b }; demand = d })); room = k.room }
+      go : (j : Job) (ps : List Placement) → Told j ps s None → (s.seen ≤ pieces_most) × (length s.flat ≡ 3 * pieces_most)
+      go j ps (clean a b c d k) = (omega (arith, a.seen, length-flat ps, few_entries {j = j} {flat = flat_of ps} (record { typed = record { fine = a.fine; typed = b }; demand = d })), k.room)
 
-  pub ends_clean : s.found ≡ Clean → {r : CheckVerdict} → CheckNumbers (take (s.seen * 3) s.flat) (items_of s.job) (check_answer r) → Ends s r
+  pub ends_clean : s.found ≡ None → {r : Result Drawing Refusal} → CheckNumbers (take (s.seen * 3) s.flat) (items_of s.job) (check_answer r) → Ends s r
   ends_clean e {r} x = record { answer = λ j ps c. go j ps c.job (subst (Told j ps s) e c.told) }
     where
-      go : (j : Job) (ps : List Placement) → s.job ≡ j → Told j ps s Clean → CheckNumbers (flat_of ps) (items_of j) (check_answer r)
+      go : (j : Job) (ps : List Placement) → s.job ≡ j → Told j ps s None → CheckNumbers (flat_of ps) (items_of j) (check_answer r)
       go j ps q (clean a b c d k) =
           let f : take (s.seen * 3) s.flat ≡ flat_of ps = ap (λ m. take (m * 3) s.flat) a.seen ∙ k.flat in
           subst (λ (j : Job). CheckNumbers (flat_of ps) (items_of j) (check_answer r)) q (subst (λ (l : List ℕ). CheckNumbers l (items_of s.job) (check_answer r)) f x)

@@ -1,5 +1,5 @@
 -- A scan of placement records: the flat numbers that they stand for, and what the state says of those seen so far. Assumes nothing.
-use Rattle.std.specs.Prelude.{◌≡◌, Bool, true, false, List, [], ◌∷◌, ◌++◌, ℕ, suc, ◌+◌, ◌*◌, ◌-◌, ◌≤◌, ◌<◌, ◌^◌, length, get_or, take, set, ltb, eqb}
+use Rattle.std.specs.Prelude.{◌≡◌, Bool, true, false, List, [], ◌∷◌, ◌++◌, ℕ, suc, ◌+◌, ◌*◌, ◌-◌, ◌≤◌, ◌<◌, ◌^◌, length, get_or, take, set, ltb, eqb, Option, Some, None, Result}
 use Rattle.std.proofs.Math.Option.{none, some}
 use Rattle.rules.specs.Limits.{types_most, demand_most, pieces_most, placement_numbers}
 use Rattle.rules.specs.Bag.{count}
@@ -7,48 +7,42 @@ use Rattle.rules.specs.Items.{out_of_range}
 use Rattle.rules.specs.Numbers.{Entry, entries}
 use Rattle.rules.specs.Checker.{not_a_type, off_sheet, above_demand, first_place}
 use Rattle.rules.specs.Answers.{CheckNumbers}
-use Rattle.shapes.specs.Answer.{check_answer}
+use Rattle.shapes.specs.Answer.{number_of, check_answer}
 use Rattle.shapes.specs.Handed.{items_of, numbers_of, entry_of, JobInRange}
 use Rattle.shapes.specs.declared.Job.{Job}
 use Rattle.shapes.specs.declared.Placement.{Placement}
 use Rattle.shapes.specs.declared.PieceType as declared
-use Rattle.shapes.specs.declared.CheckVerdict.{CheckVerdict}
+use Rattle.shapes.specs.declared.Drawing.{Drawing}
+use Rattle.shapes.specs.declared.Refusal.{Refusal}
+use Rattle.shapes.specs.declared.Refusal.TheVariants.{NotAType, OffSheet, AboveDemand}
 use Rattle.placing.specs.Place.{NoneAt, TypeOf}
 use Rattle.records.specs.declared.Scan.{Scan}
-use Rattle.records.specs.declared.Found.{Found}
-use Rattle.records.specs.declared.Found.TheVariants.{Clean, OutOfRange, NotAType, OffSheet, AboveDemand}
 
 -- "also as records of three numbers": the flat numbers of a list of records
 abbrev pub flat_of : List Placement → List ℕ
 flat_of [] = []
 flat_of (p ∷ ps) = p.kind ∷ p.x ∷ p.y ∷ flat_of ps
 
--- a job's own answer
-pub data Began (j : Job) : Found → Type 0 where
-  bad : {item : ℕ} → out_of_range (items_of j) ≡ some item → Began j (OutOfRange item)
-  good : out_of_range (items_of j) ≡ none → Began j Clean
+-- a job whose numbers are all in range
+abbrev pub InRange : Job → Type 0
+InRange j = out_of_range (items_of j) ≡ none
 
 -- the first of tests 6 to 8 that holds of a placement at i, where so many of its type came before
-pub data Tested (j : Job) (counts : List ℕ) (p : Placement) (i : ℕ) : Found → Type 0 where
-  no_type_lem : not_a_type (numbers_of j) [] (entry_of p) ≡ true → Tested j counts p i (NotAType i)
-  off : not_a_type (numbers_of j) [] (entry_of p) ≡ false → off_sheet (numbers_of j) [] (entry_of p) ≡ true → Tested j counts p i (OffSheet i)
-  above : {t : declared.PieceType} → not_a_type (numbers_of j) [] (entry_of p) ≡ false → off_sheet (numbers_of j) [] (entry_of p) ≡ false → TypeOf j p.kind t → t.demand ≤ get_or counts (p.kind - 1) 0 → Tested j counts p i (AboveDemand i)
-  passes : {t : declared.PieceType} → not_a_type (numbers_of j) [] (entry_of p) ≡ false → off_sheet (numbers_of j) [] (entry_of p) ≡ false → TypeOf j p.kind t → get_or counts (p.kind - 1) 0 < t.demand → Tested j counts p i Clean
+pub data Tested (j : Job) (counts : List ℕ) (p : Placement) (i : ℕ) : Option Refusal → Type 0 where
+  no_type_lem : not_a_type (numbers_of j) [] (entry_of p) ≡ true → Tested j counts p i (Some (NotAType i))
+  off : not_a_type (numbers_of j) [] (entry_of p) ≡ false → off_sheet (numbers_of j) [] (entry_of p) ≡ true → Tested j counts p i (Some (OffSheet i))
+  above : {t : declared.PieceType} → not_a_type (numbers_of j) [] (entry_of p) ≡ false → off_sheet (numbers_of j) [] (entry_of p) ≡ false → TypeOf j p.kind t → t.demand ≤ get_or counts (p.kind - 1) 0 → Tested j counts p i (Some (AboveDemand i))
+  passes : {t : declared.PieceType} → not_a_type (numbers_of j) [] (entry_of p) ≡ false → off_sheet (numbers_of j) [] (entry_of p) ≡ false → TypeOf j p.kind t → get_or counts (p.kind - 1) 0 < t.demand → Tested j counts p i None
 
--- the refusal table's order
-abbrev pub rank_of : Found → ℕ
-rank_of (OutOfRange item) = 2
-rank_of (NotAType i) = 6
-rank_of (OffSheet i) = 7
-rank_of (AboveDemand i) = 8
-rank_of Clean = 11
-
-abbrev pub choose : Bool → Found → Found → Found
+abbrev pub choose : Bool → Refusal → Refusal → Refusal
 choose true a b = a
 choose false a b = b
 
-abbrev pub sooner_of : Found → Found → Found
-sooner_of old new = choose (ltb (rank_of new) (rank_of old)) new old
+-- by the refusal table's numbers; of two with one number the older
+abbrev pub sooner_of : Option Refusal → Option Refusal → Option Refusal
+sooner_of None new = new
+sooner_of (Some old) None = Some old
+sooner_of (Some old) (Some new) = Some (choose (ltb (number_of new) (number_of old)) new old)
 
 -- there is room for one placement more, whose type counts below every demand's limit
 pub record Keeps (s : Scan) (p : Placement) : Type 0 where
@@ -65,11 +59,6 @@ pub record Kept (s : Scan) (p : Placement) (r : Scan) : Type 0 where
   pub counts : r.counts ≡ set s.counts (p.kind - 1) (get_or s.counts (p.kind - 1) 0 + 1)
   pub flat : r.flat ≡ set (set (set s.flat (s.seen * placement_numbers) p.kind) (s.seen * placement_numbers + 1) p.x) (s.seen * placement_numbers + 2) p.y
 
--- the flat numbers have room for what was seen
-pub record Short (s : Scan) : Type 0 where
-  pub few : s.seen ≤ pieces_most
-  pub room : length s.flat ≡ placement_numbers * pieces_most
-
 -- the entries of a list, the nearest first
 abbrev pub onto : List Entry → List Entry → List Entry
 onto [] b = b
@@ -81,7 +70,7 @@ behind ps = onto (entries (flat_of ps)) []
 -- a job in range, and how many placements were seen
 pub record Alive (j : Job) (ps : List Placement) (s : Scan) : Type 0 where
   pub fine : JobInRange j
-  pub none_out : out_of_range (items_of j) ≡ none
+  pub in_range : InRange j
   pub seen : s.seen ≡ length ps
 
 -- what a clean state keeps: how many of each type, and the flat numbers
@@ -96,12 +85,11 @@ abbrev pub FirstIs : (List Entry → Entry → Bool) → List Placement → ℕ 
 FirstIs f ps i = first_place f 0 [] (entries (flat_of ps)) ≡ some i
 
 -- what is found of the placements ps
-pub data Told (j : Job) (ps : List Placement) (s : Scan) : Found → Type 0 where
-  out : {item : ℕ} → out_of_range (items_of j) ≡ some item → Told j ps s (OutOfRange item)
-  six : {i : ℕ} → Alive j ps s → FirstIs (not_a_type (numbers_of j)) ps i → Told j ps s (NotAType i)
-  seven : {i : ℕ} → Alive j ps s → NoneAt (not_a_type (numbers_of j)) (flat_of ps) → FirstIs (off_sheet (numbers_of j)) ps i → Told j ps s (OffSheet i)
-  eight : {i : ℕ} → Alive j ps s → NoneAt (not_a_type (numbers_of j)) (flat_of ps) → NoneAt (off_sheet (numbers_of j)) (flat_of ps) → FirstIs (above_demand (numbers_of j)) ps i → Told j ps s (AboveDemand i)
-  clean : Alive j ps s → NoneAt (not_a_type (numbers_of j)) (flat_of ps) → NoneAt (off_sheet (numbers_of j)) (flat_of ps) → NoneAt (above_demand (numbers_of j)) (flat_of ps) → Holding ps s → Told j ps s Clean
+pub data Told (j : Job) (ps : List Placement) (s : Scan) : Option Refusal → Type 0 where
+  six : {i : ℕ} → Alive j ps s → FirstIs (not_a_type (numbers_of j)) ps i → Told j ps s (Some (NotAType i))
+  seven : {i : ℕ} → Alive j ps s → NoneAt (not_a_type (numbers_of j)) (flat_of ps) → FirstIs (off_sheet (numbers_of j)) ps i → Told j ps s (Some (OffSheet i))
+  eight : {i : ℕ} → Alive j ps s → NoneAt (not_a_type (numbers_of j)) (flat_of ps) → NoneAt (off_sheet (numbers_of j)) (flat_of ps) → FirstIs (above_demand (numbers_of j)) ps i → Told j ps s (Some (AboveDemand i))
+  clean : Alive j ps s → NoneAt (not_a_type (numbers_of j)) (flat_of ps) → NoneAt (off_sheet (numbers_of j)) (flat_of ps) → NoneAt (above_demand (numbers_of j)) (flat_of ps) → Holding ps s → Told j ps s None
 
 -- the state after the placements ps of a list for the job j
 pub record Scanning (j : Job) (ps : List Placement) (s : Scan) : Type 0 where
@@ -120,5 +108,5 @@ pub record Steps (s : Scan) (p : Placement) (r : Scan) : Type 0 where
   pub next : (j : Job) (ps : List Placement) → Scanning j ps s → Scanning j (ps ++ (p ∷ [])) r
 
 -- the core's answer, whatever was seen
-pub record Ends (s : Scan) (r : CheckVerdict) : Type 0 where
+pub record Ends (s : Scan) (r : Result Drawing Refusal) : Type 0 where
   pub answer : (j : Job) (ps : List Placement) → Scanning j ps s → CheckNumbers (flat_of ps) (items_of j) (check_answer r)

@@ -1,11 +1,9 @@
 -- The class that is open at the arena's end, and how one of its records is found by its sizes. Assumes nothing.
-use Rattle.std.specs.Prelude.{◌≡◌, Bool, true, false, List, [], ◌∷◌, ℕ, suc, ◌+◌, ◌-◌, ◌≤◌, ◌<◌, length}
+use Rattle.std.specs.Prelude.{◌≡◌, Bool, true, false, Option, Some, None, List, [], ◌∷◌, ℕ, suc, ◌+◌, ◌-◌, ◌≤◌, ◌<◌, length}
 use Rattle.rules.specs.Limits.{records_most}
 use Rattle.rules.specs.Planner.{room_of}
 use Rattle.arena.specs.declared.Record.{Record}
 use Rattle.arena.specs.Records.{record_at, link_at, Storable}
-use Rattle.classes.specs.declared.Found.{Found}
-use Rattle.classes.specs.declared.Found.TheVariants.{At, Nowhere}
 use Rattle.classes.specs.Chains.{Reach}
 use Rattle.classes.specs.Orders.{size_in}
 use Rattle.weighing.specs.Weights.{bucket_of}
@@ -60,9 +58,9 @@ pub record Seekable (s : List ℕ) (start n long wide : ℕ) : Type 0 where
   pub wide_small : wide < join_most
   pub table : Findable s start n
 
-abbrev pub SoughtIn : (s : List ℕ) (start n long wide : ℕ) → Found → Type 0
-SoughtIn s start n long wide (At q) = SizedAs s start n long wide q
-SoughtIn s start n long wide Nowhere = (q : ℕ) → SizedAs s start n long wide q → ⊥
+abbrev pub SoughtIn : (s : List ℕ) (start n long wide : ℕ) → Option ℕ → Type 0
+SoughtIn s start n long wide (Some q) = SizedAs s start n long wide q
+SoughtIn s start n long wide None = (q : ℕ) → SizedAs s start n long wide q → ⊥
 
 -- record n stands behind the open class, and may be entered among those that are found by their sizes
 pub record Notable (s : List ℕ) (start n : ℕ) : Type 0 where

@@ -9,14 +9,8 @@ ghost use Rattle.rules.specs.Planner.{room_of};
 ghost use Rattle.seeking.specs.Opened.{place_of, Placeable, HeadAt, SameSizes, Seekable, SoughtIn, Notable, Noted, Appendable, Appended};
 
 use arena::Record;
-use classes::Found;
-
-// Of a place: the last record there, plus 1; of a record of the class: the one before it in its place, plus 1; and a link of the slot that is another class's.
-const END: usize = 2;
-
-const CHAIN: usize = 3;
-
-const HEAD: usize = 4;
+// Until the class is entered: END of a place, the last record there, plus 1; CHAIN of a record of the class, the one before it in its place, plus 1. HEAD of a slot is another class's.
+use classes::{CHAIN, END, HEAD};
 
 // Where the head of the bucket of these sizes stands, for a class that begins at `start`.
 fn place(start: usize, room: usize, long: u64, wide: u64) -> usize
@@ -41,30 +35,28 @@ fn same_sizes(arena: &[u8], i: usize, long: u64, wide: u64) -> bool
     requires { i < room_of (length arena.now) }
     ensures { SameSizes arena.now i long wide result }
 {
-    if arena::size_at(arena, i, 0) != long {
-        return false;
-    }
-    arena::size_at(arena, i, 1) == wide
+    arena::size_at(arena, i, 0) == long && arena::size_at(arena, i, 1) == wide
 }
 
-// A record with these sizes in the class from `start` up to n, which is not entered yet.
-pub fn find_size(arena: &[u8], start: usize, n: usize, long: u64, wide: u64) -> Found
+// A record with these sizes in the class from `start` up to n, which is not entered yet, if there is one.
+pub fn find_size(arena: &[u8], start: usize, n: usize, long: u64, wide: u64) -> Option<usize>
     requires { Seekable arena.now start n long wide }
     ensures { SoughtIn arena.now start n long wide result }
 {
     if n == start {
-        return Found::Nowhere;
+        return None;
     }
     let room = arena::room(arena.len());
     let mut p = head_at(arena, place(start, room, long, wide), n);
+    // The links of a chain stand in the lent arena, the only memory: no iterator of std goes along them.
     while start < p {
         let i = p - 1;
         if same_sizes(arena, i, long, wide) {
-            return Found::At(i);
+            return Some(i);
         }
         p = arena::link_at(arena, i, CHAIN);
     }
-    Found::Nowhere
+    None
 }
 
 // Lets record n be found by its sizes.

@@ -5,7 +5,7 @@
 ghost use Rattle.std.specs.Prelude.{◌≡◌, [], ◌∷◌};
 ghost use Rattle.rules.specs.Limits.{size_most, kerf_most, types_most, profit_most, demand_most, pieces_most, record_bytes, records_most, placement_numbers, digits_most, input_most, program_records};
 ghost use Rattle.rules.specs.Planner.{slots_of};
-ghost use Rattle.shapes.specs.Answer.{number_of, place_of, plan_answer, check_answer, plan_line_of, check_line_of};
+ghost use Rattle.shapes.specs.Answer.{number_of, place_of, plan_answer, check_answer, plan_line_of, check_line_of, plan_numbers, check_numbers, line_for};
 
 pub const SIZE_MOST: u64 = 5_000;
 
@@ -41,7 +41,7 @@ pub const INPUT_ROOM: usize = INPUT_MOST + 1;
 pub const PROGRAM_ARENA: usize = PROGRAM_RECORDS * RECORD_BYTES;
 
 // A piece type: a line `l w p b`.
-#[derive(Clone, Copy)]
+#[derive(Clone, Copy, Debug, PartialEq, Eq)]
 pub struct PieceType {
     pub length: u64,
     pub width: u64,
@@ -49,8 +49,16 @@ pub struct PieceType {
     pub demand: u64,
 }
 
+// No type: what stands past the piece count.
+pub const NO_TYPE: PieceType = PieceType {
+    length: 0,
+    width: 0,
+    profit: 0,
+    demand: 0,
+};
+
 // A job handed over as numbers: the sheet `L W k`, a piece count, and room for all types; those past the count are not read.
-#[derive(Clone, Copy)]
+#[derive(Clone, Copy, Debug, PartialEq, Eq)]
 pub struct Job {
     pub length: u64,
     pub width: u64,
@@ -60,7 +68,7 @@ pub struct Job {
 }
 
 // A placement `type x y`.
-#[derive(Clone, Copy)]
+#[derive(Clone, Copy, Debug, PartialEq, Eq)]
 pub struct Placement {
     pub kind: u64,
     pub x: u64,
@@ -75,7 +83,7 @@ pub fn placements_in(numbers: usize) -> usize
 }
 
 // Why an input is refused, with the place where the refusal table gives one. `number_of` and `place_of` of specs/Answer say it in the table's numbers.
-#[derive(Clone, Copy)]
+#[derive(Clone, Copy, Debug, PartialEq, Eq)]
 pub enum Refusal {
     NotInGrammar(usize),
     OutOfRange(usize),
@@ -91,7 +99,7 @@ pub enum Refusal {
 }
 
 // What the planner says of the best outline: its profit, sizes and pieces, and N.
-#[derive(Clone, Copy)]
+#[derive(Clone, Copy, Debug, PartialEq, Eq)]
 pub struct Plan {
     pub profit: u64,
     pub length: u64,
@@ -101,38 +109,23 @@ pub struct Plan {
 }
 
 // What the checker says of an accepted list.
-#[derive(Clone, Copy)]
+#[derive(Clone, Copy, Debug, PartialEq, Eq)]
 pub struct Drawing {
     pub profit: u64,
     pub pieces: u64,
 }
 
-#[derive(Clone, Copy)]
-pub enum PlanVerdict {
-    Done(Plan),
-    NoPlan(Refusal),
-}
-
-#[derive(Clone, Copy)]
-pub enum CheckVerdict {
-    Accepted(Drawing),
-    Rejected(Refusal),
-}
-
 // An answer in the numbers of the refusal table, as the programs print it and the library hands it out.
-#[derive(Clone, Copy)]
-pub struct PlanLine {
+#[derive(Clone, Copy, Debug, PartialEq, Eq)]
+pub struct Line<A> {
     pub number: u64,
     pub place: u64,
-    pub plan: Plan,
+    pub found: A,
 }
 
-#[derive(Clone, Copy)]
-pub struct CheckLine {
-    pub number: u64,
-    pub place: u64,
-    pub drawing: Drawing,
-}
+pub type PlanLine = Line<Plan>;
+
+pub type CheckLine = Line<Drawing>;
 
 // The refusal table's number of a refusal.
 pub fn refusal_number(r: Refusal) -> u64
@@ -158,61 +151,89 @@ pub fn refusal_place(r: Refusal) -> u64
     ensures { result ≡ place_of r }
 {
     match r {
-        Refusal::NotInGrammar(at) => at as u64,
-        Refusal::OutOfRange(item) => item as u64,
-        Refusal::NotAType(at) => at as u64,
-        Refusal::OffSheet(at) => at as u64,
-        Refusal::AboveDemand(at) => at as u64,
-        Refusal::Overlaps(at) => at as u64,
+        Refusal::NotInGrammar(at)
+        | Refusal::OutOfRange(at)
+        | Refusal::NotAType(at)
+        | Refusal::OffSheet(at)
+        | Refusal::AboveDemand(at)
+        | Refusal::Overlaps(at) => at as u64,
         Refusal::InputTooLong => INPUT_MOST as u64,
-        Refusal::NothingFits => 0,
-        Refusal::ArenaFull => 0,
-        Refusal::BufferShort => 0,
-        Refusal::NotParted => 0,
+        Refusal::NothingFits | Refusal::ArenaFull | Refusal::BufferShort | Refusal::NotParted => 0,
     }
 }
 
-// "All other fields of a refusal are 0."
-pub fn plan_line(v: PlanVerdict) -> PlanLine
-    ensures { plan_line_of result ≡ plan_answer v }
+// What a refusal says of an outline, and of a list: "all other fields of a refusal are 0".
+const NO_PLAN: Plan = Plan {
+    profit: 0,
+    length: 0,
+    width: 0,
+    pieces: 0,
+    outlines: 0,
+};
+
+const NO_DRAWING: Drawing = Drawing {
+    profit: 0,
+    pieces: 0,
+};
+
+// The line of an answer; `none` stands in it where the answer is a refusal.
+fn answer_line<A: Copy>(answer: Result<A, Refusal>, none: A) -> Line<A>
+    ensures { result ≡ line_for answer none }
 {
-    match v {
-        PlanVerdict::Done(plan) => PlanLine {
+    match answer {
+        Ok(found) => Line {
             number: 0,
             place: 0,
-            plan,
+            found,
         },
-        PlanVerdict::NoPlan(refusal) => PlanLine {
+        Err(refusal) => Line {
             number: refusal_number(refusal),
             place: refusal_place(refusal),
-            plan: Plan {
-                profit: 0,
-                length: 0,
-                width: 0,
-                pieces: 0,
-                outlines: 0,
-            },
+            found: none,
         },
     }
 }
 
-pub fn check_line(v: CheckVerdict) -> CheckLine
-    ensures { check_line_of result ≡ check_answer v }
+pub fn plan_line(answer: Result<Plan, Refusal>) -> PlanLine
+    ensures { plan_line_of result ≡ plan_answer answer }
 {
-    match v {
-        CheckVerdict::Accepted(drawing) => CheckLine {
-            number: 0,
-            place: 0,
-            drawing,
-        },
-        CheckVerdict::Rejected(refusal) => CheckLine {
-            number: refusal_number(refusal),
-            place: refusal_place(refusal),
-            drawing: Drawing {
-                profit: 0,
-                pieces: 0,
-            },
-        },
+    answer_line(answer, NO_PLAN)
+}
+
+pub fn check_line(answer: Result<Drawing, Refusal>) -> CheckLine
+    ensures { check_line_of result ≡ check_answer answer }
+{
+    answer_line(answer, NO_DRAWING)
+}
+
+impl Line<Plan> {
+    // "number, place, profit, length, width, pieces, N"
+    pub fn numbers(self) -> [u64; 7]
+        ensures { result ≡ plan_numbers (plan_line_of self) }
+    {
+        [
+            self.number,
+            self.place,
+            self.found.profit,
+            self.found.length,
+            self.found.width,
+            self.found.pieces,
+            self.found.outlines,
+        ]
+    }
+}
+
+impl Line<Drawing> {
+    // "number, place, profit, pieces"
+    pub fn numbers(self) -> [u64; 4]
+        ensures { result ≡ check_numbers (check_line_of self) }
+    {
+        [
+            self.number,
+            self.place,
+            self.found.profit,
+            self.found.pieces,
+        ]
     }
 }
 

@@ -6,7 +6,8 @@ use lib.ListN.{length, drop, drop_of_length-le}
 use lib.Seq.{drop-cons}
 use Rattle.rules.specs.Text.{Script, end, Text, LeavesAt}
 use Rattle.rules.proofs.Reading.{ok, stop, read, noted, fresh, sound, leaves}
-use Rattle.reading.specs.Walked.{noted_all, Walking}
+use Rattle.reader.specs.declared.Stray.{Stray}
+use Rattle.reading.specs.Walked.{noted_all, Walking, Strays}
 
 noted_ok : (vs : List ℕ) → noted_all vs (ok []) ≡ ok vs
 noted_ok [] = refl
@@ -24,8 +25,8 @@ something_left t next h = ap (λ l. read end next 0 0 l) (drop-cons t next 0 h)
 
 module _ (f : Script → Script) (t : List ℕ) where
   -- the reading stopped within the sections
-  pub leaves_within : {place : ℕ} → ((s : Script) → read (f s) 0 0 0 t ≡ stop place) → LeavesAt (f end) t place
-  leaves_within {place} x = leaves (f end) t place (x end)
+  pub leaves_within : {stray : Stray} → Strays f t 0 stray → LeavesAt (f end) t stray.place
+  leaves_within {stray} x = leaves (f end) t stray.place (x.stops end)
 
   module _ {vs : List ℕ} {next : ℕ} (x : Walking f t 0 vs (λ s. s) next) where
     -- something follows the last line

@@ -1,5 +1,5 @@
 -- The range of a text's items, from its sheet count and its job. Assumes nothing.
-use mathlib.Core.Path.{◌≡◌, refl, sym, ap, ◌∙◌}
+use mathlib.Core.Path.{◌≡◌, refl, sym, ap, ◌∙◌, subst}
 use mathlib.Core.Bool.{Bool, true, false, ◌&&◌}
 use mathlib.Core.Logic.{◌≢◌}
 use mathlib.Core.Option.{Option, none, some}
@@ -7,11 +7,12 @@ use mathlib.Core.List.{List, [], ◌∷◌, ◌++◌, map}
 use Prim.Native.Nat.{ℕ, zero, suc, ◌+◌, ◌*◌, ◌≤◌, ◌<◌}
 use native.Mathlib.Omega.{arith}
 use lib.ListN.{length, drop, length-map}
-use lib.Dec.{leb, eqb}
-use borrow.Author.Tests.{leb-true, le-leb, lt-leb, ne_eqb}
+use lib.Dec.{leb}
+use borrow.Author.Tests.{leb-true, le-leb, lt-leb}
+use Rattle.std.specs.Prelude
+use Rattle.std.specs.Prelude.{Some}
 use Rattle.rules.specs.Limits.{size_most, kerf_most, types_most, profit_most, demand_most, pieces_most}
 use Rattle.rules.specs.Items.{Range, from, piece_ranges, ranges, first_out, piece_count, out_of_range}
-use Rattle.rules.specs.Planner.{pick}
 use Rattle.rules.proofs.Bools.{and_both, both_and, and_false_right}
 use Rattle.rules.proofs.Ranges.{kept, this, those, item_in, item_out, handed_length}
 use Rattle.shapes.specs.Handed.{type_of, items_of}
@@ -58,14 +59,11 @@ many_same l w k n vs ws h = go (first_out 0 (ranges n) (1 ∷ l ∷ w ∷ k ∷ 
 many_out : (l w k n : ℕ) (vs : List ℕ) → types_most < n → out_of_range (1 ∷ l ∷ w ∷ k ∷ n ∷ vs) ≡ none → ⊥
 many_out l w k n vs h e = omega (arith, (this (those (those (those (those (kept 0 (ranges n) (1 ∷ l ∷ w ∷ k ∷ n ∷ vs) e)))))).high)
 
-other_count : (n : ℕ) → n ≢ 1 → (job : Job) → judged n job ≡ some 0
-other_count n h job = ap (λ b. pick b (out_of_range (items_of job)) (some 0)) (ne_eqb n 1 h)
-
 -- an item of the two sections is out of range, whatever stands behind them
-pub judged_out : {sheets : ℕ} {job : Job} {vs : List ℕ} → Holds sheets job vs → (ws : List ℕ) → {item : ℕ} → judged sheets job ≡ some item → out_of_range (vs ++ ws) ≡ some item
-judged_out {job = job} (all s o h) ws e = out_early 0 (ranges job.count) (items_of job) ws e
-judged_out {job = job} (too_many {vs = vs} h) ws e = many_same job.length job.width job.kerf job.count (vs ++ ws) _ h ∙ e
-judged_out (not_one {sheets = n} {job = job} {vs = vs} h) ws e = item_out 0 (from 1 1) (behind (piece_count (n ∷ vs ++ ws))) n (vs ++ ws) (not_one_out n h) ∙ sym (other_count n h job) ∙ e
+pub judged_out : {job : Prelude.Option Job} {vs : List ℕ} → Holds job vs → (ws : List ℕ) → {item : ℕ} → judged job ≡ some item → out_of_range (vs ++ ws) ≡ some item
+judged_out (all {job = job} s o h) ws e = out_early 0 (ranges job.count) (items_of job) ws e
+judged_out (too_many {job = job} {vs = vs} h) ws e = many_same job.length job.width job.kerf job.count (vs ++ ws) _ h ∙ e
+judged_out (not_one {sheets = n} {vs = vs} h) ws e = item_out 0 (from 1 1) (behind (piece_count (n ∷ vs ++ ws))) n (vs ++ ws) (not_one_out n h) ∙ e
 
 -- the items are those of the job
 pub record Items (job : Job) (vs : List ℕ) : Type 0 where
@@ -74,18 +72,16 @@ pub record Items (job : Job) (vs : List ℕ) : Type 0 where
   pub others : drop job.count job.types ≡ drop job.count no_types
   pub fine : out_of_range (items_of job) ≡ none
 
-pub judged_fine : {sheets : ℕ} {job : Job} {vs : List ℕ} → Holds sheets job vs → judged sheets job ≡ none → Items job vs
-judged_fine (all s o h) e = record { items = refl; size = s; others = o; fine = e }
-judged_fine {job = job} (too_many h) e = absurd (many_out job.length job.width job.kerf job.count _ h e)
-judged_fine (not_one {sheets = n} {job = job} h) e = none_some (sym e ∙ other_count n h job)
+pub judged_fine : {some_job : Prelude.Option Job} {job : Job} {vs : List ℕ} → some_job ≡ Some job → Holds some_job vs → judged some_job ≡ none → Items job vs
+judged_fine {job = job} {vs = vs} e h k = go (subst (λ j. Holds j vs) e h) (subst (λ j. judged j ≡ none) e k)
+  where
+    go : {job : Job} {vs : List ℕ} → Holds (Some job) vs → judged (Some job) ≡ none → Items job vs
+    go (all s o h) e = record { items = refl; size = s; others = o; fine = e }
+    go {job = job} (too_many h) e = absurd (many_out job.length job.width job.kerf job.count _ h e)
 
 -- a job that is fine has room for its types
-pub judged_count : (sheets : ℕ) (job : Job) → judged sheets job ≡ none → job.count ≤ types_most
-judged_count sheets job e = go (eqb sheets 1) refl e
-  where
-    go : (b : Bool) → eqb sheets 1 ≡ b → pick b (out_of_range (items_of job)) (some 0) ≡ none → job.count ≤ types_most
-    go true p k = (this (those (those (those (those (kept 0 (ranges job.count) (items_of job) k)))))).high
-    go false p k = none_some (sym k)
+pub judged_count : (job : Job) → out_of_range (items_of job) ≡ none → job.count ≤ types_most
+judged_count job e = (this (those (those (those (those (kept 0 (ranges job.count) (items_of job) e)))))).high
 
 -- the items behind those of a job that is fine
 ranges_split : (n : ℕ) (rs : List Range) → piece_ranges n rs ≡ piece_ranges n [] ++ rs
@@ -110,7 +106,7 @@ pass i (r ∷ rs) qs (v ∷ vs) ws l e = go (leb r.low v && leb v r.high) refl (
 
 module _ (job : Job) (size : length job.types ≡ types_most) (fine : out_of_range (items_of job) ≡ none) where
   length_items : length (items_of job) ≡ 5 + 4 * job.count
-  length_items = omega (arith, handed_length job.length job.width job.kerf job.count (map type_of job.types) (omega (arith, judged_count 1 job fine, size, length-map job.types type_of)))
+  length_items = omega (arith, handed_length job.length job.width job.kerf job.count (map type_of job.types) (omega (arith, judged_count job fine, size, length-map job.types type_of)))
 
   abbrev front : List Range
   front = from 1 1 ∷ from 1 size_most ∷ from 1 size_most ∷ from 0 kerf_most ∷ from 1 types_most ∷ piece_ranges job.count []

@@ -2,7 +2,6 @@
 pub mod Ends
 pub mod Judged
 pub mod JobTexts
-pub mod Copied
 pub mod PlanTexts
 pub mod Once
 pub mod Behind

@@ -1,29 +1,17 @@
 -- What the readers of texts answer, and leave in the lent buffer. Assumes nothing.
-use Rattle.std.specs.Prelude.{◌≡◌, List, ℕ, length, drop, eqb}
+use Rattle.std.specs.Prelude
+use Rattle.std.specs.Prelude.{◌≡◌, List, ℕ, ◌≤◌, ◌<◌, length, drop, Some, None, Result, Ok, Err, MatchResult}
 use Rattle.std.proofs.Math.Option.{Option, none, some}
 use Rattle.rules.specs.Limits.{types_most}
 use Rattle.rules.specs.Text.{job_text}
 use Rattle.rules.specs.Items.{out_of_range}
-use Rattle.rules.specs.Planner.{pick}
 use Rattle.rules.specs.Answers.{Read}
 use Rattle.shapes.specs.Answer.{number_of, place_of}
 use Rattle.shapes.specs.Handed.{items_of}
 use Rattle.shapes.specs.declared.Refusal.{Refusal}
-use Rattle.shapes.specs.declared.Refusal.TheVariants.{OutOfRange}
+use Rattle.shapes.specs.declared.Refusal.TheVariants.{NotInGrammar, OutOfRange}
 use Rattle.shapes.specs.declared.Job.{Job}
 use Rattle.reading.specs.Pieces.{no_types, no_job}
-use Rattle.texts.specs.declared.Told.{Told}
-use Rattle.texts.specs.declared.Told.TheVariants.{Fine, Refused}
-use Rattle.texts.specs.declared.JobText.{JobText}
-
--- the number and the place of what was told
-abbrev pub told_number : Told → ℕ
-told_number Fine = 0
-told_number (Refused r) = number_of r
-
-abbrev pub told_place : Told → ℕ
-told_place Fine = 0
-told_place (Refused r) = place_of r
 
 -- Job texts
 
@@ -32,12 +20,13 @@ pub record JobAnswer : Type 0 where
   pub place : ℕ
   pub job : Job
 
-abbrev pub job_answer : JobText → JobAnswer
-job_answer r = record { number = told_number r.told; place = told_place r.told; job = r.job }
-
 -- a refused text has no job
 abbrev pub no_job_at : ℕ → ℕ → JobAnswer
 no_job_at number place = record { number = number; place = place; job = no_job }
+
+abbrev pub job_answer : Result Job Refusal → JobAnswer
+job_answer (Ok job) = record { number = 0; place = 0; job = job }
+job_answer (Err r) = no_job_at (number_of r) (place_of r)
 
 -- the job whose items these are; types past its count are none
 pub record JobOf (vs : List ℕ) (a : JobAnswer) : Type 0 where
@@ -51,13 +40,14 @@ pub record JobOf (vs : List ℕ) (a : JobAnswer) : Type 0 where
 abbrev pub JobRead : List ℕ → JobAnswer → Type 0
 JobRead = Read no_job_at job_text JobOf
 
--- the steps to it
-abbrev pub refused_job : Refusal → JobText
-refused_job r = record { told = Refused r; job = no_job }
+-- the steps to it: nothing follows what was read up to a place
+abbrev pub Ends : List ℕ → ℕ → Result Unit Refusal → Type 0
+Ends t at r = MatchResult r (λ _. length t ≤ at) (λ e. (at < length t) × (e ≡ NotInGrammar at))
 
-abbrev pub judged : ℕ → Job → Option ℕ
-judged sheets job = pick (eqb sheets 1) (out_of_range (items_of job)) (some 0)
+-- the first item out of range; another sheet count than 1 is item 0
+abbrev pub judged : Prelude.Option Job → Option ℕ
+judged None = some 0
+judged (Some job) = out_of_range (items_of job)
 
-pub data JobTold (sheets : ℕ) (job : Job) : JobText → Type 0 where
-  out : {item : ℕ} → judged sheets job ≡ some item → JobTold sheets job (refused_job (OutOfRange item))
-  fine : judged sheets job ≡ none → JobTold sheets job (record { told = Fine; job = job })
+abbrev pub Judged : Prelude.Option Job → Result Job Refusal → Type 0
+Judged job r = MatchResult r (λ j. (job ≡ Some j) × (judged job ≡ none)) (λ e. (item : ℕ) × (judged job ≡ some item) × (e ≡ OutOfRange item))

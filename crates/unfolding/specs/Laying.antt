@@ -1,5 +1,5 @@
 -- What unfolding a record of the arena writes into the plan buffer. Assumes nothing.
-use Rattle.std.specs.Prelude.{◌≡◌, true, false, List, map, ◌++◌, ℕ, ◌+◌, ◌*◌, ◌≤◌, ◌<◌, length, drop}
+use Rattle.std.specs.Prelude.{◌≡◌, List, map, ◌++◌, ℕ, ◌+◌, ◌*◌, ◌≤◌, ◌<◌, length, drop}
 use Rattle.rules.specs.Limits.{placement_numbers}
 use Rattle.rules.specs.Planner.{room_of}
 use Rattle.rules.specs.Placed.{Placed}
@@ -9,10 +9,9 @@ use Rattle.rules.proofs.Arrange.{entry_of, flat}
 use Rattle.outline.specs.declared.Outline.{Outline}
 use Rattle.outline.specs.declared.Way.{Way}
 use Rattle.outline.specs.Stands.{outline_of, way_of, two_bytes}
-use Rattle.arena.specs.declared.How.TheVariants.{Piece, Joined}
+use Rattle.arena.specs.declared.How.TheVariants.{Joined}
 use Rattle.arena.specs.Records.{record_at, rec_of}
 use Rattle.unfolding.specs.declared.Corner.{Corner}
-use Rattle.unfolding.specs.declared.Node.{Node}
 
 -- places that a sum with an outline's sizes cannot take out of range
 abbrev pub far_most : ℕ
@@ -38,16 +37,6 @@ pub record Placeable (s : List ℕ) (i x y : ℕ) : Type 0 where
   pub falls : Falls s i
   pub along : x + two_bytes * i < far_most
   pub across : y + two_bytes * i < far_most
-
--- record i in two halves
-pub record IsJoined (s : List ℕ) (i x y : ℕ) (v : Node) : Type 0 where
-  pub way : Way
-  pub how : (record_at s i).how ≡ Joined way v.first v.second
-  pub next : IsNext (record_at s v.first).outline way x y v.corner
-
-pub record IsNode (s : List ℕ) (i x y : ℕ) (v : Node) : Type 0 where
-  pub piece_if : v.joined ≡ false → (record_at s i).how ≡ Piece v.kind
-  pub joined_if : v.joined ≡ true → IsJoined s i x y v
 
 -- the records rs are those of the arena up to i
 abbrev pub Reads : ℕ → List Rec → List ℕ → ℕ → Type 0

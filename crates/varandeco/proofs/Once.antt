@@ -7,7 +7,8 @@ use lib.ListN.{get_or}
 use Rattle.rules.specs.Planner.{PlanAnswer}
 use Rattle.rules.specs.Answers.{PlanLeft, PlanNumbers, PlanText, CheckNumbers, CheckText}
 use Rattle.rules.proofs.Answers.{Agree, check_numbers_once, check_text_once, plan_numbers_once, plan_text_once}
-use Rattle.handing.specs.Reply.{plan_numbers, check_numbers, handed_out, Reply}
+use Rattle.shapes.specs.Answer.{plan_numbers, check_numbers}
+use Rattle.handing.specs.Reply.{handed_out, Reply}
 
 -- the numbers in the lent answer, and the number returned
 pub record Same (now now' : List ℕ) (r r' : ℕ) : Type 0 where

@@ -4,7 +4,8 @@
 #![tactic(auto)]
 
 ghost use Rattle.rules.specs.Answers.{PlanNumbers, PlanText, CheckNumbers, CheckText};
-ghost use Rattle.handing.specs.Reply.{plan_numbers, check_numbers, Reply};
+ghost use Rattle.shapes.specs.Answer.{plan_numbers, check_numbers};
+ghost use Rattle.handing.specs.Reply.{Reply};
 ghost use Rattle.handing.specs.Slice.{slice_items};
 
 use checking::check_list;

@@ -30,11 +30,9 @@ pub fn weight_of(counts: [u8; TYPES_MOST], types: usize) -> u64
 {
     let mut sum: u64 = 0;
     let mut each = FIRST_WEIGHT;
-    let mut i = 0;
-    while i < types {
-        sum += tally::wide(counts[i]) * each;
+    for i in 0..types {
+        sum += u64::from(counts[i]) * each;
         each = next_weight(each);
-        i += 1;
     }
     sum
 }

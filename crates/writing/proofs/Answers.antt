@@ -11,8 +11,7 @@ use Rattle.rules.specs.Printed.{Spelled, done}
 use Rattle.rules.specs.Planner.{slots_of}
 use Rattle.writing.specs.Answer.{Stored, TooShort, NumberOf, LineOf, SectionOf}
 use Rattle.writing.specs.Steps.{scratch_places, CopyFits, line_text, section_text, needed, Ruled, Put, InScratch, Reaches, SectionFits}
-use Rattle.writing.specs.declared.Place.{Place}
-use Rattle.writing.specs.declared.Place.TheVariants.{At, Beyond}
+use Rattle.std.specs.Prelude.{Option, Some, None}
 use Rattle.writing.proofs.Digits.{are_digits}
 use Rattle.writing.proofs.Lines.{has_room, has_none, line_length, line_is, section_length, ruled_by, spelled_section, spelled_alone}
 
@@ -42,22 +41,22 @@ module _ {n : ℕ} {bytes : List ℕ} {from : ℕ} (s : InScratch n bytes from) 
   number_short h = is_short (drop from bytes) spelt (omega (arith, s.size, s.within, length-drop from bytes))
 
 -- a line
-module _ (vs o : List ℕ) (at : ℕ) {r : Place} (x : Reaches (needed vs) at (length o) r) where
-  pub line_room : {k : ℕ} → r ≡ At k → at + length (line_text vs) ≤ length o
+module _ (vs o : List ℕ) (at : ℕ) {r : Option ℕ} (x : Reaches (needed vs) at (length o) r) where
+  pub line_room : {k : ℕ} → r ≡ Some k → at + length (line_text vs) ≤ length o
   line_room e = omega (arith, has_room (needed vs) at (length o) e x, line_length vs)
 
-  pub line_stored : {k : ℕ} {after : List ℕ} {next : ℕ} → r ≡ At k → Put (line_text vs) o at after next → Stored (LineOf vs) o at after next
+  pub line_stored : {k : ℕ} {after : List ℕ} {next : ℕ} → r ≡ Some k → Put (line_text vs) o at after next → Stored (LineOf vs) o at after next
   line_stored e p = is_stored (line_text vs) (line_is vs) (line_room e) p
 
-  pub line_short : r ≡ Beyond → TooShort (LineOf vs) o at o
+  pub line_short : r ≡ None → TooShort (LineOf vs) o at o
   line_short e = is_short (line_text vs) (line_is vs) (omega (arith, has_none (needed vs) at (length o) e x, line_length vs))
 
 -- a section
-module _ (n w : ℕ) (vs o : List ℕ) (at : ℕ) (ruled : Ruled n w vs) {r : Place} (x : Reaches (needed (n ∷ vs)) at (length o) r) where
-  pub section_fits : {k : ℕ} → r ≡ At k → SectionFits n w vs o at
+module _ (n w : ℕ) (vs o : List ℕ) (at : ℕ) (ruled : Ruled n w vs) {r : Option ℕ} (x : Reaches (needed (n ∷ vs)) at (length o) r) where
+  pub section_fits : {k : ℕ} → r ≡ Some k → SectionFits n w vs o at
   section_fits e = record { ruled = ruled; room = omega (arith, has_room (needed (n ∷ vs)) at (length o) e x, section_length n w vs ruled) }
 
-  pub section_beyond : r ≡ Beyond → length o < at + length (section_text n w vs)
+  pub section_beyond : r ≡ None → length o < at + length (section_text n w vs)
   section_beyond e = omega (arith, has_none (needed (n ∷ vs)) at (length o) e x, section_length n w vs ruled)
 
 -- the placement section of a list
@@ -74,12 +73,12 @@ module _ (flat : List ℕ) (n : ℕ) (is : n ≡ slots_of (length flat)) where
   whole_is : SectionOf flat (section_text n placement_numbers whole)
   whole_is = subst (λ m. Spelled (section placement_numbers end) (section_text n placement_numbers whole) (m ∷ take (m * placement_numbers) flat)) is (spelled_alone (spelled_section n placement_numbers whole whole_ruled done))
 
-  module _ (o : List ℕ) (at : ℕ) {r : Place} (x : Reaches (needed (n ∷ whole)) at (length o) r) where
-    pub list_fits : {k : ℕ} → r ≡ At k → SectionFits n placement_numbers whole o at
+  module _ (o : List ℕ) (at : ℕ) {r : Option ℕ} (x : Reaches (needed (n ∷ whole)) at (length o) r) where
+    pub list_fits : {k : ℕ} → r ≡ Some k → SectionFits n placement_numbers whole o at
     list_fits e = section_fits n placement_numbers whole o at whole_ruled x e
 
-    pub list_stored : {k : ℕ} {after : List ℕ} {next : ℕ} → r ≡ At k → Put (section_text n placement_numbers whole) o at after next → Stored (SectionOf flat) o at after next
+    pub list_stored : {k : ℕ} {after : List ℕ} {next : ℕ} → r ≡ Some k → Put (section_text n placement_numbers whole) o at after next → Stored (SectionOf flat) o at after next
     list_stored e p = is_stored (section_text n placement_numbers whole) whole_is (list_fits e).room p
 
-    pub list_short : r ≡ Beyond → TooShort (SectionOf flat) o at o
+    pub list_short : r ≡ None → TooShort (SectionOf flat) o at o
     list_short e = is_short (section_text n placement_numbers whole) whole_is (section_beyond n placement_numbers whole o at whole_ruled x e)

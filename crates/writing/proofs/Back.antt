@@ -17,40 +17,41 @@ use Rattle.rules.proofs.Writing.{decimal_once, spelled_once, spelled_text, read_
 use Rattle.shapes.specs.Handed.{type_of, items_of}
 use Rattle.shapes.specs.declared.Job.{Job}
 use Rattle.writing.specs.Answer.{Stored, Writes, NumberOf, SectionOf, HouseText}
-use Rattle.writing.specs.declared.Written.{Written}
-use Rattle.writing.specs.declared.Written.TheVariants.{To, Full, NoText}
+use Rattle.std.specs.Prelude.{Result, Ok, Err}
+use Rattle.writing.specs.declared.Unwritten.{Unwritten}
+use Rattle.writing.specs.declared.Unwritten.TheVariants.{Full, NoText}
 
 -- where one list of bytes is as asked for, one answer is permitted, and one content of the buffer
-pub record Same (r q : Written) (x y : List ℕ) : Type 0 where
+pub record Same (r q : Result ℕ Unwritten) (x y : List ℕ) : Type 0 where
   pub answer : r ≡ q
   pub buffer : x ≡ y
 
 module _ (Asked : List ℕ → Type 0) (single : (a b : List ℕ) → Asked a → Asked b → a ≡ b) (o : List ℕ) (at : ℕ) where
-  pub written_once : (r q : Written) (x y : List ℕ) → Writes Asked o at x r → Writes Asked o at y q → Same r q x y
-  written_once (To m) (To n) x y s t =
+  pub written_once : (r q : Result ℕ Unwritten) (x y : List ℕ) → Writes Asked o at x r → Writes Asked o at y q → Same r q x y
+  written_once (Ok m) (Ok n) x y s t =
       let e = single s.bytes t.bytes s.asked t.asked in
       let k : m ≡ n = s.ends ∙ ap (λ b. at + length b) e ∙ sym t.ends in
-      record { answer = ap To k; buffer = s.left ∙ (λ i. take at o ++ e i ++ drop (k i) o) ∙ sym t.left }
-  written_once (To m) Full x y s t = absurd (omega (arith, s.ends, s.room, t.short, ap length (single s.bytes t.bytes s.asked t.asked)))
-  written_once (To m) NoText x y s t = absurd (t.none s.bytes s.asked)
-  written_once Full (To n) x y s t = absurd (omega (arith, t.ends, t.room, s.short, ap length (single s.bytes t.bytes s.asked t.asked)))
-  written_once Full Full x y s t = record { answer = refl; buffer = s.left ∙ sym t.left }
-  written_once Full NoText x y s t = absurd (t.none s.bytes s.asked)
-  written_once NoText (To n) x y s t = absurd (s.none t.bytes t.asked)
-  written_once NoText Full x y s t = absurd (s.none t.bytes t.asked)
-  written_once NoText NoText x y s t = record { answer = refl; buffer = s.left ∙ sym t.left }
+      record { answer = ap Ok k; buffer = s.left ∙ (λ i. take at o ++ e i ++ drop (k i) o) ∙ sym t.left }
+  written_once (Ok m) (Err Full) x y s t = absurd (omega (arith, s.ends, s.room, t.short, ap length (single s.bytes t.bytes s.asked t.asked)))
+  written_once (Ok m) (Err NoText) x y s t = absurd (t.none s.bytes s.asked)
+  written_once (Err Full) (Ok n) x y s t = absurd (omega (arith, t.ends, t.room, s.short, ap length (single s.bytes t.bytes s.asked t.asked)))
+  written_once (Err Full) (Err Full) x y s t = record { answer = refl; buffer = s.left ∙ sym t.left }
+  written_once (Err Full) (Err NoText) x y s t = absurd (t.none s.bytes s.asked)
+  written_once (Err NoText) (Ok n) x y s t = absurd (s.none t.bytes t.asked)
+  written_once (Err NoText) (Err Full) x y s t = absurd (s.none t.bytes t.asked)
+  written_once (Err NoText) (Err NoText) x y s t = record { answer = refl; buffer = s.left ∙ sym t.left }
 
   -- a caller that lends enough room gets all that it asks for
-  pub enough_room : (bytes : List ℕ) → Asked bytes → at + length bytes ≤ length o → (r : Written) (x : List ℕ) → Writes Asked o at x r → r ≡ To (at + length bytes)
-  enough_room bytes a h (To n) x s = ap To (s.ends ∙ ap (λ b. at + length b) (single s.bytes bytes s.asked a))
-  enough_room bytes a h Full x s = absurd (omega (arith, s.short, ap length (single s.bytes bytes s.asked a)))
-  enough_room bytes a h NoText x s = absurd (s.none bytes a)
+  pub enough_room : (bytes : List ℕ) → Asked bytes → at + length bytes ≤ length o → (r : Result ℕ Unwritten) (x : List ℕ) → Writes Asked o at x r → r ≡ Ok (at + length bytes)
+  enough_room bytes a h (Ok n) x s = ap Ok (s.ends ∙ ap (λ b. at + length b) (single s.bytes bytes s.asked a))
+  enough_room bytes a h (Err Full) x s = absurd (omega (arith, s.short, ap length (single s.bytes bytes s.asked a)))
+  enough_room bytes a h (Err NoText) x s = absurd (s.none bytes a)
 
-pub number_once : (n : ℕ) (o : List ℕ) (at : ℕ) (r q : Written) (x y : List ℕ) → Writes (NumberOf n) o at x r → Writes (NumberOf n) o at y q → Same r q x y
+pub number_once : (n : ℕ) (o : List ℕ) (at : ℕ) (r q : Result ℕ Unwritten) (x y : List ℕ) → Writes (NumberOf n) o at x r → Writes (NumberOf n) o at y q → Same r q x y
 number_once n = written_once (NumberOf n) (λ a b. decimal_once)
 
 -- every line, section and house text is asked for by a script and its numbers
-pub text_once : (s : Script) (vs o : List ℕ) (at : ℕ) (r q : Written) (x y : List ℕ) → Writes (λ bytes. Spelled s bytes vs) o at x r → Writes (λ bytes. Spelled s bytes vs) o at y q → Same r q x y
+pub text_once : (s : Script) (vs o : List ℕ) (at : ℕ) (r q : Result ℕ Unwritten) (x y : List ℕ) → Writes (λ bytes. Spelled s bytes vs) o at x r → Writes (λ bytes. Spelled s bytes vs) o at y q → Same r q x y
 text_once s vs = written_once (λ bytes. Spelled s bytes vs) (λ a b. spelled_once)
 
 -- what stands between the two places

@@ -17,9 +17,9 @@ use Rattle.shapes.specs.Handed.{type_of}
 use Rattle.shapes.specs.declared.PieceType as declared
 use Rattle.writing.specs.Answer.{Stored, TooShort, Writes}
 use Rattle.writing.specs.Steps.{section_text, needed, Put, Reaches, SectionFits, TwoSections, JobItems}
-use Rattle.writing.specs.declared.Written.{Written}
-use Rattle.writing.specs.declared.Place.{Place}
-use Rattle.writing.specs.declared.Place.TheVariants.{At, Beyond}
+use Rattle.std.specs.Prelude.{Result}
+use Rattle.writing.specs.declared.Unwritten.{Unwritten}
+use Rattle.std.specs.Prelude.{Option, Some, None}
 use Rattle.writing.proofs.Paste.{OnTheWay, length_pasted, pasted_all, way_start, way_on, way_end, put_four, put_both}
 use Rattle.writing.proofs.Lines.{has_room, has_none, reaches_then, section_length, ruled_by, spelled_section, spelled_alone}
 use Rattle.writing.proofs.Answers.{is_stored, is_short}
@@ -96,7 +96,7 @@ module _ (l w k n : ℕ) (ps : List PieceType) (twelve : length ps ≡ types_mos
     pub job_ruled : TwoSections (l ∷ w ∷ k ∷ []) n (take (n * 4) all)
     job_ruled = record { sheet_ruled = ruled_by 1 3 (l ∷ w ∷ k ∷ []) refl; pieces_ruled = ruled_by n 4 (take (n * 4) all) (sym pieces_length) }
 
-    pub job_written : (o after : List ℕ) (at : ℕ) (r : Written) → Writes (JobItems (l ∷ w ∷ k ∷ []) n (take (n * 4) all)) o at after r → Writes (λ bytes. Spelled job_text bytes (handed_over l w k n ps)) o at after r
+    pub job_written : (o after : List ℕ) (at : ℕ) (r : Result ℕ Unwritten) → Writes (JobItems (l ∷ w ∷ k ∷ []) n (take (n * 4) all)) o at after r → Writes (λ bytes. Spelled job_text bytes (handed_over l w k n ps)) o at after r
     job_written o after at r x = subst (λ pieces. Writes (JobItems (l ∷ w ∷ k ∷ []) n pieces) o at after r) (ap (take (n * 4)) is ∙ items_to n ps) x
 
 -- the two sections, one behind the other
@@ -117,18 +117,18 @@ module _ (sheet : List ℕ) (n : ℕ) (pieces : List ℕ) (two : TwoSections she
   house_length : length (first ++ second) ≡ bytes_needed
   house_length = omega (arith, length-append first second, section_length 1 3 sheet two.sheet_ruled, section_length n 4 pieces two.pieces_ruled)
 
-  module _ (o : List ℕ) (at : ℕ) {r : Place} (x : Reaches (needed (1 ∷ sheet)) at (length o) r) where
-    pub sheet_short : r ≡ Beyond → TooShort (JobItems sheet n pieces) o at o
+  module _ (o : List ℕ) (at : ℕ) {r : Option ℕ} (x : Reaches (needed (1 ∷ sheet)) at (length o) r) where
+    pub sheet_short : r ≡ None → TooShort (JobItems sheet n pieces) o at o
     sheet_short e = is_short (first ++ second) house_is (omega (arith, has_none (needed (1 ∷ sheet)) at (length o) e x, house_length))
 
-    module _ {between : ℕ} (e : r ≡ At between) (q : Place) (y : Reaches (needed (n ∷ pieces)) between (length o) q) where
+    module _ {between : ℕ} (e : r ≡ Some between) (q : Option ℕ) (y : Reaches (needed (n ∷ pieces)) between (length o) q) where
       all_reached : Reaches bytes_needed at (length o) q
       all_reached = reaches_then (needed (1 ∷ sheet)) (needed (n ∷ pieces)) at (length o) e x q y
 
-      pub pieces_short : q ≡ Beyond → TooShort (JobItems sheet n pieces) o at o
+      pub pieces_short : q ≡ None → TooShort (JobItems sheet n pieces) o at o
       pieces_short f = is_short (first ++ second) house_is (omega (arith, has_none bytes_needed at (length o) f all_reached, house_length))
 
-      module _ {last : ℕ} (f : q ≡ At last) where
+      module _ {last : ℕ} (f : q ≡ Some last) where
         house_room : at + length (first ++ second) ≤ length o
         house_room = omega (arith, has_room bytes_needed at (length o) f all_reached, house_length)
 

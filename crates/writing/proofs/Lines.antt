@@ -10,8 +10,7 @@ use Rattle.rules.specs.Text.{Script, a_line, some_lines, section, byte, space, l
 use Rattle.rules.specs.Printed.{Spelled, done, after}
 use Rattle.writing.specs.Answer.{LineOf}
 use Rattle.writing.specs.Steps.{digits, end_byte, line_text, lines_text, section_text, needed, Ruled, InScratch, CopyFits, Put, Reaches, LinesFit, SectionFits}
-use Rattle.writing.specs.declared.Place.{Place}
-use Rattle.writing.specs.declared.Place.TheVariants.{At, Beyond}
+use Rattle.std.specs.Prelude.{Option, Some, None}
 use Rattle.writing.proofs.Digits.{leading, are_digits, last_digit, leading_some}
 use Rattle.writing.proofs.Paste.{OnTheWay, length_pasted, way_start, way_on, way_end, put_one, put_both}
 
@@ -81,24 +80,24 @@ module _ {vs : List ℕ} {at size : ℕ} where
     reaching_done h = (omega (arith, r.ends, ap needed (drop_of_length-le vs {i = i} h)), r.room)
 
 -- what the answer says of the room
-pub has_room : (bytes at size : ℕ) {k : ℕ} {r : Place} → r ≡ At k → Reaches bytes at size r → at + bytes ≤ size
+pub has_room : (bytes at size : ℕ) {k : ℕ} {r : Option ℕ} → r ≡ Some k → Reaches bytes at size r → at + bytes ≤ size
 has_room bytes at size e x = let y = subst (Reaches bytes at size) e x in omega (arith, y.0, y.1)
 
-pub has_none : (bytes at size : ℕ) {r : Place} → r ≡ Beyond → Reaches bytes at size r → size < at + bytes
+pub has_none : (bytes at size : ℕ) {r : Option ℕ} → r ≡ None → Reaches bytes at size r → size < at + bytes
 has_none bytes at size e x = subst (Reaches bytes at size) e x
 
-pub reaches_then : (a b at size : ℕ) {next : ℕ} {r : Place} → r ≡ At next → Reaches a at size r → (q : Place) → Reaches b next size q → Reaches (a + b) at size q
-reaches_then a b at size e x (At k) y = let z = subst (Reaches a at size) e x in (omega (arith, z.0, y.0), y.1)
-reaches_then a b at size e x Beyond y = let z = subst (Reaches a at size) e x in omega (arith, z.0)
+pub reaches_then : (a b at size : ℕ) {next : ℕ} {r : Option ℕ} → r ≡ Some next → Reaches a at size r → (q : Option ℕ) → Reaches b next size q → Reaches (a + b) at size q
+reaches_then a b at size e x (Some k) y = let z = subst (Reaches a at size) e x in (omega (arith, z.0, y.0), y.1)
+reaches_then a b at size e x None y = let z = subst (Reaches a at size) e x in omega (arith, z.0)
 
 -- a count, and then the numbers behind it
-module _ (n : ℕ) (vs : List ℕ) (at size : ℕ) {r : Place} (x : Reaches (needed (n ∷ [])) at size r) where
-  pub section_reaches : {next : ℕ} → r ≡ At next → (q : Place) → Reaches (needed vs) next size q → Reaches (needed (n ∷ vs)) at size q
+module _ (n : ℕ) (vs : List ℕ) (at size : ℕ) {r : Option ℕ} (x : Reaches (needed (n ∷ [])) at size r) where
+  pub section_reaches : {next : ℕ} → r ≡ Some next → (q : Option ℕ) → Reaches (needed vs) next size q → Reaches (needed (n ∷ vs)) at size q
   section_reaches e q y =
       let s : needed (n ∷ []) + needed vs ≡ needed (n ∷ vs) = omega arith in
       subst (λ b. Reaches b at size q) s (reaches_then (needed (n ∷ [])) (needed vs) at size e x q y)
 
-  pub section_no_room : r ≡ Beyond → size < at + needed (n ∷ vs)
+  pub section_no_room : r ≡ None → size < at + needed (n ∷ vs)
   section_no_room e = let z = has_none (needed (n ∷ [])) at size e x in omega arith
 
 -- a line, number by number

@@ -1,5 +1,5 @@
 -- What a writer answers and leaves in the buffer: all the bytes that are asked for, or nothing. Assumes nothing.
-use Rattle.std.specs.Prelude.{◌≡◌, List, ◌++◌, ℕ, ◌+◌, ◌*◌, ◌≤◌, ◌<◌, length, take, drop}
+use Rattle.std.specs.Prelude.{◌≡◌, List, ◌++◌, ℕ, ◌+◌, ◌*◌, ◌≤◌, ◌<◌, length, take, drop, Result, Ok, Err}
 use Rattle.rules.specs.Limits.{placement_numbers}
 use Rattle.rules.specs.Planner.{slots_of}
 use Rattle.rules.specs.Decimal.{Decimal}
@@ -9,10 +9,11 @@ use Rattle.rules.specs.Printed as printed
 use Rattle.shapes.specs.Answer.{plan_line_of, check_line_of}
 use Rattle.shapes.specs.Handed.{items_of}
 use Rattle.shapes.specs.declared.Job.{Job}
-use Rattle.shapes.specs.declared.PlanLine.{PlanLine}
-use Rattle.shapes.specs.declared.CheckLine.{CheckLine}
-use Rattle.writing.specs.declared.Written.{Written}
-use Rattle.writing.specs.declared.Written.TheVariants.{To, Full, NoText}
+use Rattle.shapes.specs.declared.Plan.{Plan}
+use Rattle.shapes.specs.declared.Drawing.{Drawing}
+use Rattle.shapes.specs.declared.Line.{Line}
+use Rattle.writing.specs.declared.Unwritten.{Unwritten}
+use Rattle.writing.specs.declared.Unwritten.TheVariants.{Full, NoText}
 
 module _ (Asked : List ℕ → Type 0) (before : List ℕ) (at : ℕ) (after : List ℕ) where
   -- bytes as asked for stand from `at` to `next`, and every other byte is as it was
@@ -35,10 +36,10 @@ module _ (Asked : List ℕ → Type 0) (before : List ℕ) (at : ℕ) (after : L
     pub none : (bytes : List ℕ) → Asked bytes → ⊥
     pub left : after ≡ before
 
-  abbrev pub Writes : Written → Type 0
-  Writes (To next) = Stored next
-  Writes Full = TooShort
-  Writes NoText = NoSuch
+  abbrev pub Writes : Result ℕ Unwritten → Type 0
+  Writes (Ok next) = Stored next
+  Writes (Err Full) = TooShort
+  Writes (Err NoText) = NoSuch
 
 -- what is asked for: a number
 abbrev pub NumberOf : ℕ → List ℕ → Type 0
@@ -49,10 +50,10 @@ abbrev pub LineOf : List ℕ → List ℕ → Type 0
 LineOf numbers bytes = Spelled (a_line (length numbers) end) bytes numbers
 
 -- the line of an answer of the planner, and of the checker
-abbrev pub PlanLineOf : PlanLine → List ℕ → Type 0
+abbrev pub PlanLineOf : Line Plan → List ℕ → Type 0
 PlanLineOf l bytes = printed.PlanLine bytes (plan_line_of l)
 
-abbrev pub CheckLineOf : CheckLine → List ℕ → Type 0
+abbrev pub CheckLineOf : Line Drawing → List ℕ → Type 0
 CheckLineOf l bytes = printed.CheckLine bytes (check_line_of l)
 
 -- the placement section of a list: "a length of flat numbers that is not a multiple of 3 loses its last one or two numbers"

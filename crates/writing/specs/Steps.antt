@@ -1,10 +1,8 @@
 -- The bytes of numbers as the code puts them one behind the other, and what each part of it leaves: what the inner functions promise. Assumes nothing.
-use Rattle.std.specs.Prelude.{◌≡◌, List, [], ◌∷◌, ◌++◌, ℕ, zero, suc, ◌+◌, ◌≤◌, ◌<◌, length, take, drop}
+use Rattle.std.specs.Prelude.{◌≡◌, List, [], ◌∷◌, ◌++◌, ℕ, zero, suc, ◌+◌, ◌≤◌, ◌<◌, length, take, drop, Option, Some, None}
 use Rattle.rules.specs.Text.{byte, space, line, job_text}
 use Rattle.rules.specs.Printed.{Spelled}
 use Rattle.rules.proofs.Writing.{decimal_exists}
-use Rattle.writing.specs.declared.Place.{Place}
-use Rattle.writing.specs.declared.Place.TheVariants.{At, Beyond}
 
 -- the digits of a number, of which there is one list
 unfoldable pub digits : ℕ → List ℕ
@@ -64,9 +62,9 @@ needed [] = 0
 needed (v ∷ vs) = suc (length (digits v)) + needed vs
 
 -- the place behind so many bytes from `at` on, or that the buffer ends before it
-abbrev pub Reaches : ℕ → ℕ → ℕ → Place → Type 0
-Reaches bytes at size (At next) = (next ≡ at + bytes) × (next ≤ size)
-Reaches bytes at size Beyond = size < at + bytes
+abbrev pub Reaches : ℕ → ℕ → ℕ → Option ℕ → Type 0
+Reaches bytes at size (Some next) = (next ≡ at + bytes) × (next ≤ size)
+Reaches bytes at size None = size < at + bytes
 
 -- lines, or a section, with room in the buffer
 pub record LinesFit (count width : ℕ) (flat before : List ℕ) (at : ℕ) : Type 0 where

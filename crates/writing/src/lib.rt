@@ -22,14 +22,12 @@ const SHEET_NUMBERS: usize = 3;
 
 const PIECE_NUMBERS: usize = 4;
 
-// What a writer answers.
-#[derive(Clone, Copy)]
-pub enum Written {
-    // Written, and this is the place behind the last byte.
-    To(usize),
-    // The buffer ends before the last byte. Nothing is written.
+// Why nothing is written.
+#[derive(Clone, Copy, Debug, PartialEq, Eq)]
+pub enum Unwritten {
+    // The buffer ends before the last byte.
     Full,
-    // There is no such text: a job whose count is above its types. Nothing is written.
+    // There is no such text: a job whose count is above its types.
     NoText,
 }
 
@@ -48,6 +46,7 @@ fn in_scratch(n: u64) -> Scratch
     let mut from = SCRATCH_PLACES - 1;
     bytes[from] = (DIGIT_ZERO + n % 10) as u8;
     let mut rest = n / 10;
+    // how many digits there are shows only when none is left
     while 0 < rest {
         from -= 1;
         bytes[from] = (DIGIT_ZERO + rest % 10) as u8;
@@ -60,30 +59,25 @@ fn copy(scratch: Scratch, out: &mut [u8], at: usize) -> usize
     requires { CopyFits scratch.from out.old at }
     ensures { Put (drop scratch.from scratch.bytes) out.old at out.new result }
 {
-    let bytes = scratch.bytes;
-    let mut i = scratch.from;
-    let mut next = at;
-    while i < SCRATCH_PLACES {
-        out[next] = bytes[i];
-        i += 1;
-        next += 1;
-    }
+    let digits = &scratch.bytes[scratch.from..];
+    let next = at + digits.len();
+    out[at..next].copy_from_slice(digits);
     next
 }
 
 // A number in decimal digits.
-pub fn number(n: u64, out: &mut [u8], at: usize) -> Written
+pub fn number(n: u64, out: &mut [u8], at: usize) -> Result<usize, Unwritten>
     ensures { Writes (NumberOf n) out.old at out.new result }
 {
     let scratch = in_scratch(n);
     let length = out.len();
     if length < at {
-        return Written::Full;
+        return Err(Unwritten::Full);
     }
     if length - at < SCRATCH_PLACES - scratch.from {
-        return Written::Full;
+        return Err(Unwritten::Full);
     }
-    Written::To(copy(scratch, out, at))
+    Ok(copy(scratch, out, at))
 }
 
 fn digit_count(n: u64) -> usize
@@ -98,30 +92,22 @@ fn digit_count(n: u64) -> usize
     count
 }
 
-// Where numbers end that are written from some place on, each with the byte behind it.
-#[derive(Clone, Copy)]
-enum Place {
-    At(usize),
-    Beyond,
-}
-
-fn place_behind(numbers: &[u64], at: usize, size: usize) -> Place
+// Where numbers end that are written from some place on, each with the byte behind it; or none, where the buffer ends before.
+fn place_behind(numbers: &[u64], at: usize, size: usize) -> Option<usize>
     ensures { Reaches (needed numbers.now) at size result }
 {
     if size < at {
-        return Place::Beyond;
+        return None;
     }
     let mut next = at;
-    let mut i = 0;
-    while i < numbers.len() {
-        let count = digit_count(numbers[i]);
-        i += 1;
+    for &number in numbers {
+        let count = digit_count(number);
         if size - next <= count {
-            return Place::Beyond;
+            return None;
         }
         next += count + 1;
     }
-    Place::At(next)
+    Some(next)
 }
 
 // The byte behind a number that has some numbers behind it on its line.
@@ -149,11 +135,8 @@ fn put_line(numbers: &[u64], out: &mut [u8], at: usize) -> usize
     ensures { Put (line_text numbers.now) out.old at out.new result }
 {
     let mut next = at;
-    let mut i = 0;
-    while i < numbers.len() {
-        let n = numbers[i];
-        i += 1;
-        let end = end_byte(numbers.len() - i);
+    for (i, &n) in numbers.iter().enumerate() {
+        let end = end_byte(numbers.len() - (i + 1));
         next = put_number(n, end, out, next);
     }
     next
@@ -165,58 +148,46 @@ fn put_lines(count: usize, width: usize, flat: &[u64], out: &mut [u8], at: usize
 {
     let mut next = at;
     let mut from = 0;
-    let mut i = 0;
-    while i < count {
+    for i in 0..count {
         let end = from + width;
         next = put_line(&flat[from..end], out, next);
         from = end;
-        i += 1;
     }
     next
 }
 
 // A line of numbers, one space between. A slice of no numbers is no line: no byte is written for it.
-pub fn line(numbers: &[u64], out: &mut [u8], at: usize) -> Written
+pub fn line(numbers: &[u64], out: &mut [u8], at: usize) -> Result<usize, Unwritten>
     ensures { Writes (LineOf numbers.now) out.old at out.new result }
 {
     let place = place_behind(numbers, at, out.len());
-    let Place::At(_) = place else {
-        return Written::Full;
+    let Some(_) = place else {
+        return Err(Unwritten::Full);
     };
-    Written::To(put_line(numbers, out, at))
+    Ok(put_line(numbers, out, at))
 }
 
 // "number, place, profit, length, width, pieces, N"
-pub fn plan_line(l: PlanLine, out: &mut [u8], at: usize) -> Written
+pub fn plan_line(l: PlanLine, out: &mut [u8], at: usize) -> Result<usize, Unwritten>
     ensures { Writes (PlanLineOf l) out.old at out.new result }
 {
-    let numbers = [
-        l.number,
-        l.place,
-        l.plan.profit,
-        l.plan.length,
-        l.plan.width,
-        l.plan.pieces,
-        l.plan.outlines,
-    ];
-    line(&numbers, out, at)
+    line(&l.numbers(), out, at)
 }
 
 // "number, place, profit, pieces"
-pub fn check_line(l: CheckLine, out: &mut [u8], at: usize) -> Written
+pub fn check_line(l: CheckLine, out: &mut [u8], at: usize) -> Result<usize, Unwritten>
     ensures { Writes (CheckLineOf l) out.old at out.new result }
 {
-    let numbers = [l.number, l.place, l.drawing.profit, l.drawing.pieces];
-    line(&numbers, out, at)
+    line(&l.numbers(), out, at)
 }
 
-fn section_behind(count: usize, flat: &[u64], at: usize, size: usize) -> Place
+fn section_behind(count: usize, flat: &[u64], at: usize, size: usize) -> Option<usize>
     ensures { Reaches (needed (count ∷ flat.now)) at size result }
 {
     let counted = [count as u64];
     let place = place_behind(&counted, at, size);
-    let Place::At(next) = place else {
-        return Place::Beyond;
+    let Some(next) = place else {
+        return None;
     };
     place_behind(flat, next, size)
 }
@@ -230,16 +201,16 @@ fn put_section(count: usize, width: usize, flat: &[u64], out: &mut [u8], at: usi
 }
 
 // The placement section of a list of flat numbers: its count, and a line for each placement. A rest of one or two numbers is no placement.
-pub fn placement_section(flat: &[u64], out: &mut [u8], at: usize) -> Written
+pub fn placement_section(flat: &[u64], out: &mut [u8], at: usize) -> Result<usize, Unwritten>
     ensures { Writes (SectionOf flat.now) out.old at out.new result }
 {
     let count = shapes::placements_in(flat.len());
     let end = count * PLACEMENT_NUMBERS;
     let place = section_behind(count, &flat[..end], at, out.len());
-    let Place::At(_) = place else {
-        return Written::Full;
+    let Some(_) = place else {
+        return Err(Unwritten::Full);
     };
-    Written::To(put_section(count, PLACEMENT_NUMBERS, &flat[..end], out, at))
+    Ok(put_section(count, PLACEMENT_NUMBERS, &flat[..end], out, at))
 }
 
 // The numbers of the piece lines, one line behind the other.
@@ -247,43 +218,47 @@ fn piece_numbers(types: [PieceType; TYPES_MOST]) -> [u64; PIECE_NUMBERS * TYPES_
     ensures { result ≡ type_items (map type_of types) }
 {
     let mut flat = [0u64; PIECE_NUMBERS * TYPES_MOST];
-    let mut i = 0;
-    while i < TYPES_MOST {
+    for i in 0..TYPES_MOST {
         let t = types[i];
         let at = PIECE_NUMBERS * i;
         flat[at] = t.length;
         flat[at + 1] = t.width;
         flat[at + 2] = t.profit;
         flat[at + 3] = t.demand;
-        i += 1;
     }
     flat
 }
 
-fn two_sections(sheet: &[u64], count: usize, pieces: &[u64], out: &mut [u8], at: usize) -> Written
+fn two_sections(
+    sheet: &[u64],
+    count: usize,
+    pieces: &[u64],
+    out: &mut [u8],
+    at: usize,
+) -> Result<usize, Unwritten>
     requires { TwoSections sheet.now count pieces.now }
     ensures { Writes (JobItems sheet.now count pieces.now) out.old at out.new result }
 {
     let size = out.len();
     let place = section_behind(1, sheet, at, size);
-    let Place::At(between) = place else {
-        return Written::Full;
+    let Some(between) = place else {
+        return Err(Unwritten::Full);
     };
     let last = section_behind(count, pieces, between, size);
-    let Place::At(_) = last else {
-        return Written::Full;
+    let Some(_) = last else {
+        return Err(Unwritten::Full);
     };
     let next = put_section(1, SHEET_NUMBERS, sheet, out, at);
-    Written::To(put_section(count, PIECE_NUMBERS, pieces, out, next))
+    Ok(put_section(count, PIECE_NUMBERS, pieces, out, next))
 }
 
 // The house text of a job's numbers, whatever their ranges: the sheet, and the piece lines up to the count.
 // A count above the types that a job has room for asks for lines that are not there: no text has these items.
-pub fn job_text(job: Job, out: &mut [u8], at: usize) -> Written
+pub fn job_text(job: Job, out: &mut [u8], at: usize) -> Result<usize, Unwritten>
     ensures { Writes (HouseText job) out.old at out.new result }
 {
     if (TYPES_MOST as u64) < job.count {
-        return Written::NoText;
+        return Err(Unwritten::NoText);
     }
     let count = job.count as usize;
     let sheet = [job.length, job.width, job.kerf];

@@ -17,12 +17,12 @@ fine_job : (job : Job) → length job.types ≡ types_most → out_of_range (ite
 fine_job job room fine = record { types = room; count = count_fine job room fine; numbers = job_in_range job room fine }
 
 pub check_in_range-requires : goal.check_in_range-requires
-check_in_range-requires c = fine_job c.args.job (search rules) (sym c.first_out_of_range.ensures ∙ ap item_place c.in-Fine.is)
+check_in_range-requires c = fine_job c.args.job (search rules) (sym c.first_out_of_range.ensures ∙ ap item_place c.in_default.is)
 
-pub returns-in-Out : goal.returns-in-Out
-returns-in-Out c = outside (sym c.first_out_of_range.ensures ∙ ap item_place c.in-Out.is)
+pub returns-in-Some : goal.returns-in-Some
+returns-in-Some c = outside (sym c.first_out_of_range.ensures ∙ ap item_place c.in-Some.is)
 
-pub returns-in-Fine : goal.returns-in-Fine
-returns-in-Fine c =
-    let fine : out_of_range (items_of c.args.job) ≡ none = sym c.first_out_of_range.ensures ∙ ap item_place c.in-Fine.is in
+pub returns : goal.returns
+returns c =
+    let fine : out_of_range (items_of c.args.job) ≡ none = sym c.first_out_of_range.ensures ∙ ap item_place c.in_default.is in
     verdict_in_range c.args.job c.args.list.now fine (same_numbers c.args.job (search rules) fine) c.check_in_range.ensures

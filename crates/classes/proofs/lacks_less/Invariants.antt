@@ -1,13 +1,9 @@
 -- `classes::lacks_less` meets its contract. The invariant: the types before t lack no class. Assumes nothing.
 use mathlib.Core.Path.{◌≡◌}
-use Prim.Native.Nat.{◌-◌}
 use lib.ListN.{take}
 use Rattle.weighing.specs.Weights.{weight_of}
 use Rattle.classes.proofs.OneLess.{Finding}
 use Rattle.classes.proofs.lacks_less.Given as goal
 
 abbrev pub invariant-loop-t : goal.invariant-loop-t
-invariant-loop-t l = Finding l.types l.arena l.n (take l.types l.counts) l.t × (l.next ≡ weight_of l.t)
-
-abbrev pub decreases-loop-t : goal.decreases-loop-t
-decreases-loop-t l = l.types - l.t
+invariant-loop-t l = Finding l.types l.arena l.n (take l.types l.fn.counts) l.t × (l.next ≡ weight_of l.t)

@@ -1,14 +1,11 @@
 -- `growing::add` meets its contract. Assumes nothing.
 use mathlib.Core.Path.{sym, ◌∙◌}
 use Rattle.outlines.proofs.Laws.{full_with}
-use Rattle.growing.proofs.Laws.{absent, there, appendable, comes}
+use Rattle.growing.proofs.Laws.{absent, appendable, comes}
 use Rattle.growing.proofs.add.Goals as goal
 
 pub holds_from-requires : goal.holds_from-requires
 holds_from-requires c = absent c.args.job c.args.arena.now c.args.start c.args.n c.args.build c.requires
-
-pub returns-then-holds_from : goal.returns-then-holds_from
-returns-then-holds_from c = there c.args.job c.args.arena.now c.args.start c.args.n c.args.build c.requires (c.holds_from.ensures.yes_if c.if-holds_from.true)
 
 pub returns-then-n-room : goal.returns-then-n-room
 returns-then-n-room c = full_with c.args.job c.args.arena.now c.args.n c.args.build c.requires.addable (c.if-n-room.true ∙ c.room.ensures) (c.holds_from.ensures.no_if c.if-holds_from.false)

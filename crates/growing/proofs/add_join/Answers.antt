@@ -1,17 +1,11 @@
 -- `growing::add_join` meets its contract. Assumes nothing.
 use mathlib.Core.Path.{sym, ◌∙◌}
 use Rattle.outline.specs.Stands.{way_of}
-use Rattle.growing.proofs.Laws.{pairing, join_there, pair_growable, pair_comes, pair_not}
+use Rattle.growing.proofs.Laws.{join_there, pair_growable, pair_comes, pair_not}
 use Rattle.growing.proofs.add_join.Goals as goal
-
-pub join_there-requires : goal.join_there-requires
-join_there-requires c = pairing c.args.job c.args.arena.now c.args.start c.args.n c.args.i c.args.q c.requires (way_of c.args.way)
 
 pub returns-then-join_there : goal.returns-then-join_there
 returns-then-join_there c = join_there c.args.job c.args.arena.now c.args.start c.args.n c.args.i c.args.q c.requires (way_of c.args.way) (c.join_there.ensures c.if-join_there.true)
-
-pub fits-requires : goal.fits-requires
-fits-requires c = c.requires.joinable.ready.range
 
 pub add-requires : goal.add-requires
 add-requires c = pair_growable c.args.job c.args.arena.now c.args.start c.args.n c.args.i c.args.q c.requires c.args.way _ _ c.load-a.ensures c.load-b.ensures _ c.joined-o.ensures (sym c.fits.ensures ∙ c.if-fits.true)

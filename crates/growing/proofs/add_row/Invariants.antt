@@ -1,10 +1,6 @@
 -- `growing::add_row` meets its contract. The invariant: record i is joined with those that the order names before k. Assumes nothing.
-use Prim.Native.Nat.{◌-◌}
 use Rattle.growing.proofs.Rows.{RowGone}
 use Rattle.growing.proofs.add_row.Given as goal
 
 abbrev pub invariant-loop-k : goal.invariant-loop-k
 invariant-loop-k l = RowGone l.job l.start l.way l.w l.side l.end l.size l.i l.b l.initial.arena l.first l.arena l.n l.k
-
-abbrev pub decreases-loop-k : goal.decreases-loop-k
-decreases-loop-k l = l.end - l.k

@@ -1,9 +1,6 @@
 -- `growing::holds_from` meets its contract. Assumes nothing.
-use Rattle.growing.proofs.Laws.{seekable, sized_holds, sized_none}
+use Rattle.growing.proofs.Laws.{sized_holds, sized_none}
 use Rattle.growing.proofs.holds_from.Goals as goal
-
-pub has_sizes-requires : goal.has_sizes-requires
-has_sizes-requires c = seekable c.requires
 
 pub returns : goal.returns
 returns c =

@@ -4,8 +4,8 @@ use Rattle.parts.proofs.Parts.{left}
 use Rattle.halving.proofs.Odometer.{InParts}
 use Rattle.halving.proofs.grow_by_parts.Given as goal
 
-abbrev pub invariant-loop-m : goal.invariant-loop-m
-invariant-loop-m l = InParts l.job l.least l.initial.arena l.start l.half l.counts l.arena l.n (portion l.part l.rest l.step)
+abbrev pub invariant-loop-n : goal.invariant-loop-n
+invariant-loop-n l = InParts l.job l.least l.initial.arena l.start l.half l.counts l.arena l.n (portion l.part l.rest l.step)
 
-abbrev pub decreases-loop-m : goal.decreases-loop-m
-decreases-loop-m l = left l.job.count l.part
+abbrev pub decreases-loop-n : goal.decreases-loop-n
+decreases-loop-n l = left l.job.count l.part

@@ -1,11 +1,6 @@
 -- `count_up` meets its contract. Invariant and laws are in Numbering. Assumes nothing.
-use Prim.Native.Nat.{◌-◌}
-use lib.ListN.{length}
 use Rattle.laying.proofs.Numbering.{Numbering}
 use Rattle.laying.proofs.count_up.Given as goal
 
 abbrev pub invariant-loop-i : goal.invariant-loop-i
 invariant-loop-i l = Numbering l.initial.order l.order l.i
-
-abbrev pub decreases-loop-i : goal.decreases-loop-i
-decreases-loop-i l = length l.order - l.i

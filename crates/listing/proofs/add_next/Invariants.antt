@@ -1,9 +1,6 @@
--- `listing::add_next` meets its contract. The invariant: the types from `after` on have been followed, and class p has none of them. Assumes nothing.
+-- `listing::add_next` meets its contract. The invariant: the types from t on have been followed, and class p has none of them. Assumes nothing.
 use Rattle.listing.proofs.Laws.{Following}
 use Rattle.listing.proofs.add_next.Given as goal
 
-abbrev pub invariant-loop-after : goal.invariant-loop-after
-invariant-loop-after l = Following l.job l.least l.initial.arena l.first l.half l.p l.arena l.n l.after
-
-abbrev pub decreases-loop-after : goal.decreases-loop-after
-decreases-loop-after l = l.after
+abbrev pub invariant-loop-t : goal.invariant-loop-t
+invariant-loop-t l = Following l.job l.least l.initial.arena l.first l.half l.p l.arena l.n l.t

@@ -9,15 +9,7 @@ returns-then-not-fits c = single_left c.requires.0 c.requires.1 c.single-o.ensur
 pub add-requires : goal.add-requires
 add-requires c = single_growable c.requires.0 c.requires.1 c.single-o.ensures (sym c.fits.ensures ∙ c.if-not-fits.false)
 
-pub close_class-requires : goal.close_class-requires
-close_class-requires c =
-    let g = rw c.in-Complete.is at c.add.ensures in
-    (g.growing, g.grown.held.room, c.requires.0.singles.ready.range.count)
-
-pub returns-in-Full : goal.returns-in-Full
-returns-in-Full c = rw c.in-Full.is at c.add.ensures
-
-pub returns-in-Complete : goal.returns-in-Complete
-returns-in-Complete c =
-    let g = rw c.in-Complete.is at c.add.ensures in
+pub returns : goal.returns
+returns c =
+    let g = rw c.in_ok-m.was at c.add.ensures in
     single_came c.requires.0 c.requires.1 c.single-o.ensures g c.close_class.ensures

@@ -4,18 +4,6 @@ use Rattle.listing.specs.Queue.{HalvesAt}
 use Rattle.listing.proofs.Laws.{passed_class, passed_standing, halves_join, halves_idle}
 use Rattle.listing.proofs.half_of.Goals as goal
 
-pub loop-passed-init : goal.loop-passed-init
-loop-passed-init c = c.requires.halves
-
-pub pieces_at-requires : goal.pieces_at-requires
-pieces_at-requires c = (omega (arith, c.loop-passed-test.true, c.requires.directory.room), c.requires.range.count)
-
-pub returns-then-most-pieces_at : goal.returns-then-most-pieces_at
-returns-then-most-pieces_at c = record { halves = c.loop-passed.invariant; beyond = λ h. omega (arith, c.if-most-pieces_at.true, c.pieces_at.ensures.0) }
-
-pub end_of-passed-requires : goal.end_of-passed-requires
-end_of-passed-requires c = omega (arith, c.loop-passed-test.true, c.requires.directory.room)
-
 pub joins-requires : goal.joins-requires
 joins-requires c = passed_standing c.requires c.loop-passed.invariant (omega (arith, c.loop-passed-test.true))
 
@@ -38,6 +26,3 @@ pub loop-passed-preserved : goal.loop-passed-preserved
 loop-passed-preserved c =
     subst (λ e. HalvesAt c.args.job c.args.least c.args.arena.now c.args.n c.args.most (record { passed = e; tried = c.loop-passed.tried })) (sym c.end_of-passed.ensures.0)
     (halves_idle c.requires c.loop-passed.invariant (omega (arith, c.loop-passed-test.true)) ((omega (arith, c.if-most-pieces_at.false, c.pieces_at.ensures.0))) (c.joins.ensures c.if-joins.false))
-
-pub returns : goal.returns
-returns c = record { halves = c.loop-passed.invariant; beyond = λ h. absurd (omega (arith, c.loop-passed-test.false)) }

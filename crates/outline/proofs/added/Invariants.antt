@@ -1,12 +1,9 @@
 -- `outline::added` meets its contract. The invariant: below i the sums stand. Assumes nothing.
-use Prim.Native.Nat.{ℕ, ◌+◌, ◌-◌, ◌%◌, ◌≤◌, ◌<◌}
+use Prim.Native.Nat.{ℕ, ◌+◌, ◌%◌, ◌<◌}
 use mathlib.Core.Path.{◌≡◌}
 use lib.ListN.{length, get_or}
 use Rattle.rules.specs.Limits.{types_most}
 use Rattle.outline.proofs.added.Given as goal
 
 abbrev pub invariant-loop-i : goal.invariant-loop-i
-invariant-loop-i l = (l.i ≤ types_most) × (length l.r ≡ types_most) × ((k : ℕ) → k < l.i → get_or l.r k 0 ≡ (get_or l.a k 0 + get_or l.b k 0) % 256)
-
-abbrev pub decreases-loop-i : goal.decreases-loop-i
-decreases-loop-i l = types_most - l.i
+invariant-loop-i l = (length l.r ≡ types_most) × ((k : ℕ) → k < l.i → get_or l.r k 0 ≡ (get_or l.fn.a k 0 + get_or l.fn.b k 0) % 256)

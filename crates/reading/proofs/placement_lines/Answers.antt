@@ -1,24 +1,20 @@
-use native.Mathlib.Omega.{arith}
-use lib.ListN.{length-set}
-use Rattle.reading.proofs.Walks.{arrived, left}
-use Rattle.reading.proofs.Flat.{in_placements_start, in_placements_next, in_placements_stops, in_placements_end, fits}
+use mathlib.Core.Path.{refl, ap, ◌∙◌}
 use borrow.Author.Rules.{rules}
+use Rattle.reading.proofs.Flat.{in_placements_start, in_placements_next, in_placements_stops, in_placements_end}
+use Rattle.reading.proofs.Walks.{told}
 use Rattle.reading.proofs.placement_lines.Goals as goal
 
 pub loop-i-init : goal.loop-i-init
-loop-i-init c = in_placements_start
+loop-i-init c = (refl, in_placements_start)
 
-pub returns-in-Stops : goal.returns-in-Stops
-returns-in-Stops c = in_placements_stops c.loop-i.invariant c.requires c.loop-i-test.true c.in-Stops.place (left c.line-l.ensures c.in-Stops.is)
-
-pub bounds-numbers-j-in-loop-i : goal.bounds-numbers-j-in-loop-i
-bounds-numbers-j-in-loop-i c = simp length-set (omega (arith, (fits c.loop-i.invariant c.requires c.loop-i-test.true)))
-
-pub bounds-numbers-j-in-loop-i-2 : goal.bounds-numbers-j-in-loop-i-2
-bounds-numbers-j-in-loop-i-2 c = simp length-set (omega (arith, (fits c.loop-i.invariant c.requires c.loop-i-test.true)))
+pub returns-in_err-line-clause-read : goal.returns-in_err-line-clause-read
+returns-in_err-line-clause-read c = told (in_placements_stops c.loop-i.invariant.1 c.loop-i-test.true (ap (λ b. b.now) c.loop-i.invariant.0) c.in_err-line.ensures.read) _ c.from_residual.result c.from_residual.ensures
 
 pub loop-i-preserved : goal.loop-i-preserved
-loop-i-preserved c = in_placements_next c.loop-i.invariant c.requires c.loop-i-test.true c.line-l.result.numbers ((search rules)) c.in-To.next (arrived c.line-l.ensures c.in-To.is)
+loop-i-preserved c = (
+  c.line.ensures.text ∙ c.loop-i.invariant.0,
+  in_placements_next c.loop-i.invariant.1 c.loop-i-test.true (ap (λ b. b.now) c.loop-i.invariant.0) c.requires c.in_ok-line.line (search rules) c.in_ok-line.ensures.read _ (rw c.copy_from_slice.ensures.after refl) (search rules),
+)
 
-pub returns : goal.returns
-returns c = in_placements_end c.loop-i.invariant c.requires c.loop-i-test.false
+pub returns-clause-read : goal.returns-clause-read
+returns-clause-read c = in_placements_end c.loop-i.invariant.1 c.loop-i-test.false

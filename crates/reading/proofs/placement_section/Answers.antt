@@ -1,15 +1,21 @@
 -- `reading::placement_section` meets its contract: a count, and then its lines. Assumes nothing.
-use mathlib.Core.Path.{refl, sym, ◌∙◌}
+use mathlib.Core.Path.{refl, ap}
 use Rattle.rules.specs.Text.{some_lines}
-use Rattle.reading.proofs.Parts.{count_walk, count_stops}
-use Rattle.reading.proofs.Flat.{placements_stop, placements_behind}
+use Rattle.reading.specs.Placements.{no_numbers, PlacementsOf, inside, outside}
+use Rattle.reading.proofs.Walks.{told, count_walk, count_stops, strays_behind, arrives_behind, passed_as}
 use Rattle.reading.proofs.placement_section.Goals as goal
 
-pub returns-then-count : goal.returns-then-count
-returns-then-count c = placements_behind (count_walk _ _ c.in-Is.count c.in-Is.next (λ n. some_lines n 3) (sym c.number_at.ensures ∙ c.in-Is.is)) refl c.listed.ensures
+pub returns-in_err-count-clause-read : goal.returns-in_err-count-clause-read
+returns-in_err-count-clause-read c = told (count_stops c.args.r.now.text.now c.args.r.now.at _ (λ n. some_lines n 3) c.in_err-count.ensures.number) _ c.from_residual.result c.from_residual.ensures
 
-pub returns-in-IsNot : goal.returns-in-IsNot
-returns-in-IsNot c = placements_stop c.no_placements.ensures.0 c.no_placements.ensures.1 c.no_placements.ensures.2 (count_stops c.args.text.now c.args.from c.in-IsNot.place (λ n. some_lines n 3) (sym c.number_at.ensures ∙ c.in-IsNot.is))
+pub returns-in_err-numbers-clause-read : goal.returns-in_err-numbers-clause-read
+returns-in_err-numbers-clause-read c = told (strays_behind (count_walk c.args.r.now.text.now c.args.r.now.at c.in_ok-count.count c.count.new.self.at (λ n. some_lines n 3) c.in_ok-count.ensures.number) (ap (λ b. b.now) c.count.ensures.text) c.in_err-numbers.ensures.read) _ c.from_residual-in_err-numbers.result c.from_residual-in_err-numbers.ensures
 
-pub returns-else-count : goal.returns-else-count
-returns-else-count c = placements_behind (count_walk _ _ c.in-Is.count c.in-Is.next (λ n. some_lines n 3) (sym c.number_at.ensures ∙ c.in-Is.is)) refl c.unlisted.ensures
+pub returns-then-count-clause-read : goal.returns-then-count-clause-read
+returns-then-count-clause-read c = arrives_behind (count_walk c.args.r.now.text.now c.args.r.now.at c.in_ok-count.count c.count.new.self.at (λ n. some_lines n 3) c.in_ok-count.ensures.number) (ap (λ b. b.now) c.count.ensures.text) c.in_ok-numbers.ensures.read (λ vs p. inside c.if-count.true p)
+
+pub returns-in_err-skip_lines-clause-read : goal.returns-in_err-skip_lines-clause-read
+returns-in_err-skip_lines-clause-read c = told (strays_behind (count_walk c.args.r.now.text.now c.args.r.now.at c.in_ok-count.count c.count.new.self.at (λ n. some_lines n 3) c.in_ok-count.ensures.number) (ap (λ b. b.now) c.count.ensures.text) c.in_err-skip_lines.ensures.passed) _ c.from_residual-in_err-skip_lines.result c.from_residual-in_err-skip_lines.ensures
+
+pub returns-clause-read : goal.returns-clause-read
+returns-clause-read c = passed_as (count_walk c.args.r.now.text.now c.args.r.now.at c.in_ok-count.count c.count.new.self.at (λ n. some_lines n 3) c.in_ok-count.ensures.number) (ap (λ b. b.now) c.count.ensures.text) {Told = PlacementsOf} {a = record { count = c.in_ok-count.count; numbers = no_numbers }} c.in_ok-skip_lines.ensures.passed (λ vs. outside c.if-count.false refl)

@@ -1,15 +1,16 @@
-use Rattle.reading.proofs.Walks.{arrived, left}
+use mathlib.Core.Path.{refl, ap, ◌∙◌}
 use Rattle.reading.proofs.Lines.{in_lines_start, in_lines_next, in_lines_stops, in_lines_end}
+use Rattle.reading.proofs.Walks.{told}
 use Rattle.reading.proofs.skip_lines.Goals as goal
 
-pub loop-left-init : goal.loop-left-init
-loop-left-init c = in_lines_start
+pub loop-i-init : goal.loop-i-init
+loop-i-init g c = (refl, in_lines_start)
 
-pub returns-in-Stops : goal.returns-in-Stops
-returns-in-Stops c = in_lines_stops c.loop-left.invariant c.loop-left-test.true c.in-Stops.place (left c.line-l.ensures c.in-Stops.is)
+pub returns-in_err-line-clause-passed : goal.returns-in_err-line-clause-passed
+returns-in_err-line-clause-passed g c = told (in_lines_stops c.loop-i.invariant.1 (ap (λ b. b.now) c.loop-i.invariant.0) c.loop-i-test.true c.in_err-line.ensures.read) _ c.from_residual.result c.from_residual.ensures
 
-pub loop-left-preserved : goal.loop-left-preserved
-loop-left-preserved c = in_lines_next c.loop-left.invariant c.loop-left-test.true _ c.in-To.next (arrived c.line-l.ensures c.in-To.is)
+pub loop-i-preserved : goal.loop-i-preserved
+loop-i-preserved g c = (c.line.ensures.text ∙ c.loop-i.invariant.0, in_lines_next c.loop-i.invariant.1 (ap (λ b. b.now) c.loop-i.invariant.0) c.loop-i-test.true c.in_ok-line.ensures.read)
 
-pub returns : goal.returns
-returns c = in_lines_end c.loop-left.invariant c.loop-left-test.false
+pub returns-clause-passed : goal.returns-clause-passed
+returns-clause-passed g c = in_lines_end c.loop-i.invariant.1 c.loop-i-test.false

@@ -1,14 +1,22 @@
 -- `reading::two_sections` meets its contract: a sheet count, and then what it asks for. Assumes nothing.
-use mathlib.Core.Path.{refl, sym, ◌∙◌}
-use Rattle.reading.specs.Sections.{some_sheets}
-use Rattle.reading.proofs.Parts.{part_stops, part_behind, count_walk, count_stops, one_of}
+use mathlib.Core.Path.{ap}
+use Rattle.std.specs.Prelude.{None}
+use Rattle.reading.specs.Sections.{Holds, some_sheets, not_one}
+use Rattle.reading.proofs.Parts.{one_walk}
+use Rattle.reading.proofs.Walks.{told, count_walk, count_stops, strays_behind, arrives_behind, passed_as}
 use Rattle.reading.proofs.two_sections.Goals as goal
 
-pub returns-then-sheets-eq1 : goal.returns-then-sheets-eq1
-returns-then-sheets-eq1 c = part_behind (count_walk _ 0 c.in-Is.sheets c.in-Is.next some_sheets (sym c.first_count.ensures ∙ c.in-Is.is)) refl (one_of c.if-sheets-eq1.true c.one_sheet.ensures)
+pub returns-in_err-sheets-clause-read : goal.returns-in_err-sheets-clause-read
+returns-in_err-sheets-clause-read c = told (count_stops c.args.r.now.text.now c.args.r.now.at _ some_sheets c.in_err-sheets.ensures.number) _ c.from_residual.result c.from_residual.ensures
 
-pub returns-in-IsNot : goal.returns-in-IsNot
-returns-in-IsNot c = part_stops c.stopped.ensures.0 (count_stops c.args.text.now 0 c.in-IsNot.place some_sheets (sym c.first_count.ensures ∙ c.in-IsNot.is))
+pub returns-in_err-job-clause-read : goal.returns-in_err-job-clause-read
+returns-in_err-job-clause-read c = told (strays_behind (one_walk c.if-sheets-eq1.true (count_walk c.args.r.now.text.now c.args.r.now.at c.in_ok-sheets.sheets c.count.new.self.at some_sheets c.in_ok-sheets.ensures.number)) (ap (λ b. b.now) c.count.ensures.text) c.in_err-job.ensures.read) _ c.from_residual-in_err-job.result c.from_residual-in_err-job.ensures
 
-pub returns-else-sheets-eq1 : goal.returns-else-sheets-eq1
-returns-else-sheets-eq1 c = part_behind (count_walk _ 0 c.in-Is.sheets c.in-Is.next some_sheets (sym c.first_count.ensures ∙ c.in-Is.is)) refl c.other_sheets.ensures
+pub returns-then-sheets-eq1-clause-read : goal.returns-then-sheets-eq1-clause-read
+returns-then-sheets-eq1-clause-read c = arrives_behind (one_walk c.if-sheets-eq1.true (count_walk c.args.r.now.text.now c.args.r.now.at c.in_ok-sheets.sheets c.count.new.self.at some_sheets c.in_ok-sheets.ensures.number)) (ap (λ b. b.now) c.count.ensures.text) c.in_ok-job.ensures.read (λ vs h. h)
+
+pub returns-in_err-other_sheets-clause-read : goal.returns-in_err-other_sheets-clause-read
+returns-in_err-other_sheets-clause-read c = told (strays_behind (count_walk c.args.r.now.text.now c.args.r.now.at c.in_ok-sheets.sheets c.count.new.self.at some_sheets c.in_ok-sheets.ensures.number) (ap (λ b. b.now) c.count.ensures.text) c.in_err-other_sheets.ensures.passed) _ c.from_residual-in_err-other_sheets.result c.from_residual-in_err-other_sheets.ensures
+
+pub returns-clause-read : goal.returns-clause-read
+returns-clause-read c = passed_as (count_walk c.args.r.now.text.now c.args.r.now.at c.in_ok-sheets.sheets c.count.new.self.at some_sheets c.in_ok-sheets.ensures.number) (ap (λ b. b.now) c.count.ensures.text) {Told = Holds} {a = None} c.in_ok-other_sheets.ensures.passed (λ vs. not_one c.if-sheets-eq1.false)

@@ -2,7 +2,7 @@
 use mathlib.Core.Path.{sym, ◌∙◌}
 use mathlib.Core.List.{[]}
 use native.Mathlib.Omega.{arith}
-use Rattle.placing.proofs.Tests.{type_test, of_type_lem}
+use Rattle.placing.proofs.Types.{type_test, of_type_lem}
 use Rattle.records.specs.Scan.{no_type_lem, off, above, passes}
 use Rattle.records.proofs.test_of.Goals as goal
 

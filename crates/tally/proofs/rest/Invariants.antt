@@ -1,12 +1,9 @@
 -- `tally::rest` meets its contract. The invariant: below i the counts of the record are taken away. Assumes nothing.
-use Prim.Native.Nat.{ℕ, ◌-◌, ◌≤◌, ◌<◌}
+use Prim.Native.Nat.{ℕ, ◌-◌, ◌<◌}
 use mathlib.Core.Path.{◌≡◌}
 use lib.ListN.{length, get_or}
 use Rattle.rules.specs.Limits.{types_most}
 use Rattle.tally.proofs.rest.Given as goal
 
 abbrev pub invariant-loop-i : goal.invariant-loop-i
-invariant-loop-i l = (l.i ≤ l.n) × (length l.r ≡ types_most) × ((k : ℕ) → k < l.i → get_or l.r k 0 ≡ get_or l.counts k 0 - get_or l.s k 0)
-
-abbrev pub decreases-loop-i : goal.decreases-loop-i
-decreases-loop-i l = l.n - l.i
+invariant-loop-i l = (length l.r ≡ types_most) × ((k : ℕ) → k < l.i → get_or l.r k 0 ≡ get_or l.fn.counts k 0 - get_or l.s k 0)

@@ -1,22 +1,25 @@
-use native.Mathlib.Omega.{arith}
-use mathlib.Core.Path.{sym, ◌∙◌}
-use lib.ListN.{take, length-take}
-use lib.Seq.{get_or-take}
-use borrow.Author.Count.{below_more}
-use Rattle.rules.proofs.Places.{same_here, same_all}
+-- `tally::same_counts` meets its contract. Assumes nothing.
+use mathlib.Core.Path.{◌≡◌, refl, sym, ap, ◌∙◌}
+use mathlib.Core.List.{List, [], ◌∷◌}
+use Prim.Native.Nat.{ℕ}
+use mathlib.Core.Bool.{◌&&◌}
+use lib.Dec.{eqb}
+use lib.ListN.{take}
+use lib.Pointwise.{pointwise}
+use lib.Seq.{take-take}
 use Rattle.rules.specs.Limits.{types_most}
+use Rattle.rules.proofs.Outlines.{same_list}
 use Rattle.tally.proofs.same_counts.Goals as goal
 
-pub returns-then-counts-at : goal.returns-then-counts-at
-returns-then-counts-at c =
-    let s = c.args.s.now in
-    let e = get_or-take types_most s c.loop-i.i 0 (omega arith) in
-    sym (same_here c.args.n c.args.counts.now (take types_most s) c.loop-i.i (omega arith) (omega arith) (simp length-take (omega arith)) (λ p. c.if-counts-at.true (p ∙ e)))
-
-pub loop-i-preserved : goal.loop-i-preserved
-loop-i-preserved c = (omega arith, below_more _ _ c.loop-i.invariant.1 c.if-counts-at.false)
+-- std's test whether lists are the same
+pointwise_same : (a b : List ℕ) → pointwise eqb a b ≡ same_list a b
+pointwise_same [] [] = refl
+pointwise_same [] (y ∷ b) = refl
+pointwise_same (x ∷ a) [] = refl
+pointwise_same (x ∷ a) (y ∷ b) = ap (λ r. eqb x y && r) (pointwise_same a b)
 
 pub returns : goal.returns
 returns c =
+    let a = take c.args.n c.args.counts.now in
     let s = c.args.s.now in
-    sym (same_all c.args.n c.args.counts.now (take types_most s) (omega arith) (simp length-take (omega arith)) (λ k h. c.loop-i.invariant.1 k (omega arith) ∙ sym (get_or-take types_most s k 0 (omega arith))))
+    c.eq.ensures ∙ pointwise_same a (take c.args.n s) ∙ ap (same_list a) (sym (take-take c.args.n types_most s c.requires))

@@ -1,14 +1,14 @@
 -- `texts::judge` meets its contract. Assumes nothing.
-use mathlib.Core.Path.{sym, ap, ◌∙◌}
-use mathlib.Core.Option.{some}
-use borrow.Author.Tests.{eq-eqb, ne_eqb}
-use Rattle.rules.specs.Items.{out_of_range}
-use Rattle.rules.specs.Planner.{pick}
-use Rattle.shapes.specs.Handed.{items_of}
+use mathlib.Core.Path.{refl, sym, ap, ◌∙◌}
+use Rattle.jobs.specs.Item.{item_place}
+use Rattle.texts.specs.Told.{judged}
 use Rattle.texts.proofs.judge.Goals as goal
 
-pub returns-then-sheets-eq1 : goal.returns-then-sheets-eq1
-returns-then-sheets-eq1 c = c.first_out_of_range.ensures ∙ sym (ap (λ b. pick b (out_of_range (items_of c.args.job)) (some 0)) (eq-eqb _ _ c.if-sheets-eq1.true))
+pub returns-in_default : goal.returns-in_default
+returns-in_default c = (0, ap judged c.in_default.is, refl)
 
-pub returns : goal.returns
-returns c = sym (ap (λ b. pick b (out_of_range (items_of c.args.job)) (some 0)) (ne_eqb _ _ c.if-sheets-eq1.false))
+pub returns-in-Some-first_out_of_range : goal.returns-in-Some-first_out_of_range
+returns-in-Some-first_out_of_range c = (c.in-Some-first_out_of_range.item, (ap judged c.in-Some.is ∙ sym c.first_out_of_range.ensures ∙ ap item_place c.in-Some-first_out_of_range.is), refl)
+
+pub returns-in-None : goal.returns-in-None
+returns-in-None c = (c.in-Some.is, ap judged c.in-Some.is ∙ sym c.first_out_of_range.ensures ∙ ap item_place c.in-None.is)

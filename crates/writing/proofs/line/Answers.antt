@@ -10,9 +10,9 @@ returns-in_default c =
 pub put_line-requires : goal.put_line-requires
 put_line-requires c =
     let a = c.args in
-    line_room a.numbers.now a.out.now a.at c.place_behind-place.ensures c.in-At.is
+    line_room a.numbers.now a.out.now a.at c.place_behind-place.ensures c.in-Some.is
 
 pub returns : goal.returns
 returns c =
     let a = c.args in
-    line_stored a.numbers.now a.out.now a.at c.place_behind-place.ensures c.in-At.is c.put_line.ensures
+    line_stored a.numbers.now a.out.now a.at c.place_behind-place.ensures c.in-Some.is c.put_line.ensures

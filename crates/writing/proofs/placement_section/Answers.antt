@@ -16,9 +16,9 @@ slice_bounds-put_section-end c = whole_length c.args.flat.now _ c.placements_in-
 pub put_section-requires : goal.put_section-requires
 put_section-requires c =
     let a = c.args in
-    list_fits a.flat.now _ c.placements_in-count.ensures a.out.now a.at c.section_behind-place.ensures c.in-At.is
+    list_fits a.flat.now _ c.placements_in-count.ensures a.out.now a.at c.section_behind-place.ensures c.in-Some.is
 
 pub returns : goal.returns
 returns c =
     let a = c.args in
-    list_stored a.flat.now _ c.placements_in-count.ensures a.out.now a.at c.section_behind-place.ensures c.in-At.is c.put_section.ensures
+    list_stored a.flat.now _ c.placements_in-count.ensures a.out.now a.at c.section_behind-place.ensures c.in-Some.is c.put_section.ensures

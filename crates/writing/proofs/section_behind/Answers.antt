@@ -10,4 +10,4 @@ returns-in_default c =
 pub returns : goal.returns
 returns c =
     let a = c.args in
-    section_reaches a.count a.flat.now a.at a.size c.place_behind-place.ensures c.in-At.is c.place_behind.result c.place_behind.ensures
+    section_reaches a.count a.flat.now a.at a.size c.place_behind-place.ensures c.in-Some.is c.place_behind.result c.place_behind.ensures

@@ -10,19 +10,19 @@ returns-in_default c =
 pub returns-in_default-last : goal.returns-in_default-last
 returns-in_default-last c =
     let a = c.args in
-    pieces_short a.sheet.now a.count a.pieces.now c.requires a.out.now a.at c.section_behind-place.ensures c.in-At.is _ c.section_behind-last.ensures c.in_default-last.is
+    pieces_short a.sheet.now a.count a.pieces.now c.requires a.out.now a.at c.section_behind-place.ensures c.in-Some.is _ c.section_behind-last.ensures c.in_default-last.is
 
 pub put_section-next-requires : goal.put_section-next-requires
 put_section-next-requires c =
     let a = c.args in
-    sheet_fits a.sheet.now a.count a.pieces.now c.requires a.out.now a.at c.section_behind-place.ensures c.in-At.is _ c.section_behind-last.ensures c.in-At-last.is
+    sheet_fits a.sheet.now a.count a.pieces.now c.requires a.out.now a.at c.section_behind-place.ensures c.in-Some.is _ c.section_behind-last.ensures c.in-Some-last.is
 
 pub put_section-requires : goal.put_section-requires
 put_section-requires c =
     let a = c.args in
-    pieces_fit a.sheet.now a.count a.pieces.now c.requires a.out.now a.at c.section_behind-place.ensures c.in-At.is _ c.section_behind-last.ensures c.in-At-last.is c.put_section-next.ensures
+    pieces_fit a.sheet.now a.count a.pieces.now c.requires a.out.now a.at c.section_behind-place.ensures c.in-Some.is _ c.section_behind-last.ensures c.in-Some-last.is c.put_section-next.ensures
 
 pub returns : goal.returns
 returns c =
     let a = c.args in
-    house_stored a.sheet.now a.count a.pieces.now c.requires a.out.now a.at c.section_behind-place.ensures c.in-At.is _ c.section_behind-last.ensures c.in-At-last.is c.put_section-next.ensures c.put_section.ensures
+    house_stored a.sheet.now a.count a.pieces.now c.requires a.out.now a.at c.section_behind-place.ensures c.in-Some.is _ c.section_behind-last.ensures c.in-Some-last.is c.put_section-next.ensures c.put_section.ensures

@@ -5,4 +5,4 @@ use Rattle.outline.proofs.Laws.{take_sums}
 use Rattle.outline.proofs.Outline.above.Goals as goal
 
 pub returns : goal.returns
-returns c = record { joined = λ n p q i. record { long = c.larger-length.ensures i; wide = c.plus-width.ensures i; counts = (ap (take n) c.added-counts.ensures ∙ take_sums n c.args.self.counts c.args.other.counts p q) i } }
+returns c = record { joined = λ n p q i. record { long = c.larger.ensures i; wide = c.plus.ensures i; counts = (ap (take n) c.added.ensures ∙ take_sums n c.args.self.counts c.args.other.counts p q) i } }

@@ -5,4 +5,4 @@ use Rattle.outline.proofs.Laws.{take_sums}
 use Rattle.outline.proofs.Outline.beside.Goals as goal
 
 pub returns : goal.returns
-returns c = record { joined = λ n p q i. record { long = c.plus-length.ensures i; wide = c.larger-width.ensures i; counts = (ap (take n) c.added-counts.ensures ∙ take_sums n c.args.self.counts c.args.other.counts p q) i } }
+returns c = record { joined = λ n p q i. record { long = c.plus.ensures i; wide = c.larger.ensures i; counts = (ap (take n) c.added.ensures ∙ take_sums n c.args.self.counts c.args.other.counts p q) i } }

@@ -79,6 +79,16 @@ impl<'a> Reader<'a> {
         Reader { text, at: 0 }
     }
 
+    // The reader at another place of its text.
+    pub fn moved(self, to: usize) -> Reader<'a>
+        ensures { (result.text ≡ self.entry.text) × (result.at ≡ to) }
+    {
+        Reader {
+            text: self.text,
+            at: to,
+        }
+    }
+
     // Reads the number that begins here and is ended by the byte `end`, and stands behind it then. It stays where it is if there is none.
     pub fn number(&mut self, end: u8) -> Result<u64, Stray>
         ensures text { self.new.text ≡ self.old.text }

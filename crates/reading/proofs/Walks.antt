@@ -8,7 +8,7 @@ use Rattle.rules.proofs.Reading.{Read, stop, read, noted}
 use Rattle.reader.specs.Number.{number_at}
 use Rattle.std.specs.Prelude.{Ok, Err, Result, MatchResult, IsErr, IsErrAnd}
 use Rattle.reader.specs.declared.Stray.{Stray}
-use Rattle.reading.specs.Walked.{noted_all, Walking, Strays, Arrives, Passed, Passes}
+use Rattle.reading.specs.Walked.{noted_all, Walking, Strays, Arrives, Reads, Passed, Passes}
 use Rattle.reader.proofs.Follow.{follow, read_number}
 
 noted_append : (vs ws : List ℕ) (r : Read) → noted_all (vs ++ ws) r ≡ noted_all vs (noted_all ws r)
@@ -45,6 +45,14 @@ module _ {f g : Script → Script} {t : List ℕ} {from at : ℕ} {vs : List ℕ
 -- the same walk under another name for its script or its numbers
 pub walk_same : {f g h : Script → Script} {t : List ℕ} {from at : ℕ} {vs ws : List ℕ} → Walking f t from vs g at → vs ≡ ws → ((s : Script) → g s ≡ h s) → Walking f t from ws h at
 walk_same {g = g} {t = t} {at = at} {ws = ws} x e k = record { reads = λ s. x.reads s ∙ ap (λ us. noted_all us (read (g s) at 0 0 (drop at t))) e ∙ ap (λ r. noted_all ws (read r at 0 0 (drop at t))) (k s) }
+
+-- what a reading told, where it is known which way it ended
+module _ {A : Type 0} (f : Script → Script) (t : List ℕ) (from at : ℕ) (Told : A → List ℕ → Type 0) {r : Result A Stray} (x : Reads f t from Told r at) where
+  pub arrived : {a : A} → r ≡ Ok a → Arrives f t from Told a at
+  arrived e = subst (λ q. Reads f t from Told q at) e x
+
+  pub left : {stray : Stray} → r ≡ Err stray → Strays f t from stray
+  left e = subst (λ q. Reads f t from Told q at) e x
 
 -- a count comes first, or none
 pub count_walk : (t : List ℕ) (from n next : ℕ) (h : ℕ → Script → Script) → number_at 10 t from ≡ Ok (n, next) → Walking (λ s. num line (λ v. h v s)) t from (n ∷ []) (h n) next

@@ -7,7 +7,7 @@ ghost use Rattle.std.specs.Prelude.{◌≡◌, ◌∷◌, ◌≤◌, length};
 ghost use Rattle.rules.specs.Limits.{types_most, pieces_most};
 ghost use Rattle.rules.specs.Text.{a_line, some_lines, section};
 ghost use Rattle.reading.specs.Walked.{Reads, Passes};
-ghost use Rattle.reading.specs.Sections.{some_sheets, one_sheet, sheets_and_pieces, Holds};
+ghost use Rattle.reading.specs.Sections.{some_sheets, one_sheet, sheets_and_pieces, sections_of, Holds};
 ghost use Rattle.reading.specs.Placements.{numbers_of_placements, PlacementLines, Listed, PlacementsOf};
 ghost use Rattle.reading.specs.Pieces.{PieceLines, PiecesOf};
 
@@ -85,7 +85,7 @@ fn pieces(r: &mut Reader<'_>) -> Result<(u64, [PieceType; TYPES_MOST]), Stray>
 // The one sheet line `L W k`, and the pieces behind it.
 fn one_sheet(r: &mut Reader<'_>) -> Result<Job, Stray>
     ensures text { r.new.text ≡ r.old.text }
-    ensures read { Reads one_sheet r.old.text.now r.old.at (λ job vs. Holds (Some job) (1 ∷ vs)) result r.new.at }
+    ensures read { Reads one_sheet r.old.text.now r.old.at (λ job vs. Holds (sections_of job) (1 ∷ vs)) result r.new.at }
 {
     let [length, width, kerf] = line::<3>(r)?;
     let (count, types) = pieces(r)?;
@@ -107,18 +107,28 @@ fn other_sheets(r: &mut Reader<'_>, sheets: u64) -> Result<(), Stray>
     skip_section::<4>(r)
 }
 
-// The two sections that job texts and plan texts begin with: the job, where the sheet count is 1.
-pub fn two_sections(r: &mut Reader<'_>) -> Result<Option<Job>, Stray>
+// The sheet and piece sections: the sheet count, and the job, where that count is 1.
+#[derive(Clone, Copy)]
+pub struct Sections {
+    pub sheets: u64,
+    pub job: Option<Job>,
+}
+
+// The two sections that job texts and plan texts begin with.
+pub fn two_sections(r: &mut Reader<'_>) -> Result<Sections, Stray>
     ensures text { r.new.text ≡ r.old.text }
     ensures read { Reads sheets_and_pieces r.old.text.now r.old.at Holds result r.new.at }
 {
     let sheets = r.count()?;
     if sheets == 1 {
         let job = one_sheet(r)?;
-        return Ok(Some(job));
+        return Ok(Sections {
+            sheets,
+            job: Some(job),
+        });
     }
     other_sheets(r, sheets)?;
-    Ok(None)
+    Ok(Sections { sheets, job: None })
 }
 
 // Placement lines `type x y`, as flat numbers.

@@ -9,26 +9,27 @@ use lib.Dec.{eqb}
 use borrow.Author.Tests.{le-leb, lt-leb}
 use Rattle.rules.specs.Limits.{types_most, pieces_most}
 use Rattle.rules.specs.Bag.{count}
-use Rattle.rules.specs.Items.{numbers_from}
+use Rattle.rules.specs.Items.{out_of_range, numbers_from}
 use Rattle.rules.specs.Placed.{of_type}
 use Rattle.rules.specs.Numbers.{Numbers, PieceType, Entry, no_type}
 use Rattle.rules.specs.Checker.{not_a_type, off_sheet, above_demand}
-use Rattle.rules.specs.Answers.{CheckNumbers}
+use Rattle.rules.specs.Answers.{outside, CheckNumbers}
 use Rattle.shapes.specs.Answer.{check_answer}
 use Rattle.shapes.specs.Handed.{items_of, numbers_of, entry_of, JobInRange}
 use Rattle.shapes.specs.declared.Job.{Job}
 use Rattle.shapes.specs.declared.Placement.{Placement}
 use Rattle.shapes.specs.declared.PieceType as declared
-use Rattle.std.specs.Prelude.{Option, Some, None, Result, Err, is_some}
+use Rattle.std.specs.Prelude.{Option, Some, None, Result, Err, is_some, MatchOption, IsSomeAnd}
 use Rattle.shapes.specs.declared.Drawing.{Drawing}
 use Rattle.shapes.specs.declared.Refusal.{Refusal}
-use Rattle.shapes.specs.declared.Refusal.TheVariants.{NotAType, OffSheet}
+use Rattle.shapes.specs.declared.Refusal.TheVariants.{OutOfRange, NotAType, OffSheet}
+use Rattle.jobs.specs.Item.{item_place}
 use Rattle.jobs.proofs.Fine.{count_fine, same_numbers, job_in_range}
 use Rattle.placing.specs.Place.{NoneAt, OfJob, TypeOf}
 use Rattle.placing.proofs.Types.{of_type_lem, few_entries}
 use Rattle.checking.proofs.Verdict.{rejected_6, rejected_7, rejected_8, verdict_in_range}
 use Rattle.records.specs.declared.Scan.{Scan}
-use Rattle.records.specs.Scan.{flat_of, behind, InRange, Tested, no_type_lem, off, above, passes, sooner_of, Keeps, Kept, Alive, Holding, FirstIs, Told, six, seven, eight, clean, Scanning, Reached, Steps, Ends}
+use Rattle.records.specs.Scan.{flat_of, behind, InRange, Began, bad, good, of_job, Tested, no_type_lem, off, above, passes, sooner_of, Keeps, Kept, Alive, Holding, FirstIs, Told, out, six, seven, eight, clean, Scanning, Reached, Steps, Ends}
 use Rattle.records.proofs.Places.{length-flat, place_kept, place_none, place_here}
 use Rattle.records.proofs.Kept.{holding_next}
 
@@ -70,6 +71,10 @@ module _ (j : Job) (ps : List Placement) (s : Scan) (p : Placement) where
 
     -- the old finding and the new one: the sooner of the two
     pub told_next : {old new : Option Refusal} → Told j ps s old → Tested j s.counts p s.seen new → (old ≡ None → new ≡ None → Holding (ps ++ (p ∷ [])) r) → Told j (ps ++ (p ∷ [])) r (sooner_of old new)
+    told_next (out e) (no_type_lem f) h = out e
+    told_next (out e) (off f g) h = out e
+    told_next (out e) (above f g is l) h = out e
+    told_next (out e) (passes f g is l) h = out e
     told_next (six a e) (no_type_lem f) h = six (alive_next a) (place_kept (not_a_type n) ps p e)
     told_next (six a e) (off f g) h = six (alive_next a) (place_kept (not_a_type n) ps p e)
     told_next (six a e) (above f g is l) h = six (alive_next a) (place_kept (not_a_type n) ps p e)
@@ -107,17 +112,43 @@ both_none None new e = (refl, e)
 both_none (Some a) None e = absurd (true≢false (ap is_some e))
 both_none (Some a) (Some b) e = absurd (true≢false (ap is_some e))
 
-alive : {j : Job} {ps : List Placement} {s : Scan} {f : Option Refusal} → Told j ps s f → Alive j ps s
-alive (six a h) = a
-alive (seven a b h) = a
-alive (eight a b c h) = a
-alive (clean a b c d h) = a
+-- a job out of range: nothing is looked at
+pub steps_out : (s : Scan) {p : Placement} → of_job s.found ≡ true → Steps s p s
+steps_out s {p} e = record { next = λ j ps c. record { job = c.job; told = same s.found e c.told } }
+  where
+    same : (f : Option Refusal) → of_job f ≡ true → {j : Job} {ps : List Placement} → Told j ps s f → Told j (ps ++ (p ∷ [])) s f
+    same f e (out h) = out h
+    same f e (six a h) = absurd (true≢false (sym e))
+    same f e (seven a b h) = absurd (true≢false (sym e))
+    same f e (eight a b c h) = absurd (true≢false (sym e))
+    same f e (clean a b c d h) = absurd (true≢false (sym e))
 
-pub job_fine : {s : Scan} → Reached s → JobInRange s.job
-job_fine {s} c = subst JobInRange (sym c.scanning.job) (alive c.scanning.told).fine
+-- a refusal of no job is of a list whose job is in range
+not_out : {j : Job} {ps : List Placement} {s : Scan} {f : Option Refusal} → Told j ps s f → of_job f ≡ false → InRange j
+not_out (out h) e = absurd (true≢false e)
+not_out (six a h) e = a.in_range
+not_out (seven a b h) e = a.in_range
+not_out (eight a b c h) e = a.in_range
+not_out (clean a b c d h) e = a.in_range
 
-pub seen_is : {s : Scan} (c : Reached s) → s.seen ≡ length c.seen
-seen_is c = (alive c.scanning.told).seen
+pub job_in : {s : Scan} → Reached s → of_job s.found ≡ false → InRange s.job
+job_in {s} c e = subst InRange (sym c.scanning.job) (not_out c.scanning.told e)
+
+alive : {j : Job} {ps : List Placement} {s : Scan} {f : Option Refusal} → Told j ps s f → InRange j → Alive j ps s
+alive (out h) e = let z = sym h ∙ e in absurd cc
+alive (six a h) e = a
+alive (seven a b h) e = a
+alive (eight a b c h) e = a
+alive (clean a b c d h) e = a
+
+alive_now : {s : Scan} (c : Reached s) → InRange s.job → Alive c.job c.seen s
+alive_now c e = alive c.scanning.told (subst InRange c.scanning.job e)
+
+pub job_fine : {s : Scan} → Reached s → InRange s.job → JobInRange s.job
+job_fine c e = subst JobInRange (sym c.scanning.job) (alive_now c e).fine
+
+pub seen_is : {s : Scan} (c : Reached s) → InRange s.job → s.seen ≡ length c.seen
+seen_is c e = (alive_now c e).seen
 
 module _ (s : Scan) {p : Placement} {t b : Option Refusal} (tested : Tested s.job s.counts p s.seen t) (best : b ≡ sooner_of s.found t) where
   tested_for : {j : Job} {ps : List Placement} → Scanning j ps s → Tested j s.counts p s.seen t
@@ -159,17 +190,34 @@ module _ (s : Scan) {p : Placement} {t b : Option Refusal} (tested : Tested s.jo
       }
 
 -- the beginning
-pub scanning_start : (j : Job) → length j.types ≡ types_most → InRange j → Scanning j [] (record { job = j; found = None; seen = 0; counts = replicate types_most 0; flat = replicate (3 * pieces_most) 0 })
-scanning_start j room e = record {
-  job = refl;
-  told = clean (record { fine = record { types = room; count = count_fine j room e; numbers = job_in_range j room e }; in_range = e; seen = refl }) refl refl refl
-      (record { types = length-replicate {A = ℕ} types_most 0; held = λ k h. zeros types_most k; room = length-replicate {A = ℕ} (3 * pieces_most) 0; flat = refl });
-}
+pub began : {j : Job} (o : Option ℕ) (f : Option Refusal) → item_place o ≡ out_of_range (items_of j) → MatchOption o (f ≡ None) (λ i. IsSomeAnd f (λ r. r ≡ OutOfRange i)) → Began j f
+began None f e h = rw h (good (sym e))
+began (Some i) None e h = absurd h
+began (Some i) (Some r) e h = rw h (bad (sym e))
+
+pub scanning_start : (j : Job) {f : Option Refusal} → length j.types ≡ types_most → Began j f → Scanning j [] (record { job = j; found = f; seen = 0; counts = replicate types_most 0; flat = replicate (3 * pieces_most) 0 })
+scanning_start j {f} room b = record { job = refl; told = go f b }
   where
     zeros : (m k : ℕ) → ◌≡◌ {A = ℕ} (get_or (replicate m 0) k 0) 0
     zeros zero k = refl
     zeros (suc m) zero = refl
     zeros (suc m) (suc k) = zeros m k
+
+    go : (f : Option Refusal) → Began j f → Told j [] (record { job = j; found = f; seen = 0; counts = replicate types_most 0; flat = replicate (3 * pieces_most) 0 }) f
+    go f (bad e) = out e
+    go f (good e) =
+        clean (record { fine = record { types = room; count = count_fine j room e; numbers = job_in_range j room e }; in_range = e; seen = refl }) refl refl refl
+        (record { types = length-replicate {A = ℕ} types_most 0; held = λ k h. zeros types_most k; room = length-replicate {A = ℕ} (3 * pieces_most) 0; flat = refl })
+
+-- a job in which nothing is found is in range, and any other is refused whatever is placed
+pub none_found : {j : Job} → Began j None → InRange j
+none_found (good h) = h
+
+pub refused_out : (j : Job) (flat : List ℕ) {f : Option Refusal} {r : Refusal} → Began j f → f ≡ Some r → CheckNumbers flat (items_of j) (check_answer (Err r))
+refused_out j flat {r = r} b e = go r (subst (Began j) e b)
+  where
+    go : (r : Refusal) → Began j (Some r) → CheckNumbers flat (items_of j) (check_answer (Err r))
+    go r (bad h) = outside h
 
 -- the end
 module _ {s : Scan} where
@@ -180,6 +228,7 @@ module _ {s : Scan} where
   ends_found {f} e = record { answer = λ j ps c. go j ps f (subst (Told j ps s) e c.told) }
     where
       go : (j : Job) (ps : List Placement) (f : Refusal) → Told j ps s (Some f) → CheckNumbers (flat_of ps) (items_of j) (check_answer (Err f))
+      go j ps f (out h) = outside h
       go j ps f (six {i = i} a h) = verdict_in_range j (flat_of ps) a.in_range (checked_in a) (rejected_6 (numbers_of j) (flat_of ps) {r = Some i} (sym h) refl)
       go j ps f (seven {i = i} a b h) = verdict_in_range j (flat_of ps) a.in_range (checked_in a) (rejected_7 (numbers_of j) (flat_of ps) {r = Some i} b (sym h) refl)
       go j ps f (eight {i = i} a b c h) = verdict_in_range j (flat_of ps) a.in_range (checked_in a) (rejected_8 (numbers_of j) (flat_of ps) {r = Some i} b c (sym h) refl)

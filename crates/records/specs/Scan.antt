@@ -14,7 +14,7 @@ use Rattle.shapes.specs.declared.Placement.{Placement}
 use Rattle.shapes.specs.declared.PieceType as declared
 use Rattle.shapes.specs.declared.Drawing.{Drawing}
 use Rattle.shapes.specs.declared.Refusal.{Refusal}
-use Rattle.shapes.specs.declared.Refusal.TheVariants.{NotAType, OffSheet, AboveDemand}
+use Rattle.shapes.specs.declared.Refusal.TheVariants.{OutOfRange, NotAType, OffSheet, AboveDemand}
 use Rattle.placing.specs.Place.{NoneAt, TypeOf}
 use Rattle.records.specs.declared.Scan.{Scan}
 
@@ -26,6 +26,16 @@ flat_of (p ∷ ps) = p.kind ∷ p.x ∷ p.y ∷ flat_of ps
 -- a job whose numbers are all in range
 abbrev pub InRange : Job → Type 0
 InRange j = out_of_range (items_of j) ≡ none
+
+-- what is found of a job before any placement
+pub data Began (j : Job) : Option Refusal → Type 0 where
+  bad : {item : ℕ} → out_of_range (items_of j) ≡ some item → Began j (Some (OutOfRange item))
+  good : InRange j → Began j None
+
+-- a refusal of the job itself, by the refusal table's number
+abbrev pub of_job : Option Refusal → Bool
+of_job None = false
+of_job (Some r) = eqb (number_of r) 2
 
 -- the first of tests 6 to 8 that holds of a placement at i, where so many of its type came before
 pub data Tested (j : Job) (counts : List ℕ) (p : Placement) (i : ℕ) : Option Refusal → Type 0 where
@@ -86,6 +96,7 @@ FirstIs f ps i = first_place f 0 [] (entries (flat_of ps)) ≡ some i
 
 -- what is found of the placements ps
 pub data Told (j : Job) (ps : List Placement) (s : Scan) : Option Refusal → Type 0 where
+  out : {item : ℕ} → out_of_range (items_of j) ≡ some item → Told j ps s (Some (OutOfRange item))
   six : {i : ℕ} → Alive j ps s → FirstIs (not_a_type (numbers_of j)) ps i → Told j ps s (Some (NotAType i))
   seven : {i : ℕ} → Alive j ps s → NoneAt (not_a_type (numbers_of j)) (flat_of ps) → FirstIs (off_sheet (numbers_of j)) ps i → Told j ps s (Some (OffSheet i))
   eight : {i : ℕ} → Alive j ps s → NoneAt (not_a_type (numbers_of j)) (flat_of ps) → NoneAt (off_sheet (numbers_of j)) (flat_of ps) → FirstIs (above_demand (numbers_of j)) ps i → Told j ps s (Some (AboveDemand i))

@@ -1,13 +1,14 @@
 // The checker's entry over records: a lent slice of placements, of any length, which is only read.
 // It is thin: each placement goes through a scan, which keeps the flat numbers of a list that is still clean, and the core checks those.
-// It promises the core's answer to the flat numbers of the records. Whoever holds records calls `check_records`; everybody else calls the core.
+// It promises the core's answer to the flat numbers of the records. Whoever holds records calls `check_records`; whoever gets them one at a time steps a `Scan`,
+// which has the answer to those so far; everybody else calls the core.
 #![tactic(auto)]
 
 ghost use Rattle.std.specs.Prelude.{◌≡◌, []};
 ghost use Rattle.rules.specs.Answers.{CheckNumbers};
 ghost use Rattle.shapes.specs.Answer.{check_answer};
 ghost use Rattle.shapes.specs.Handed.{items_of, JobInRange};
-ghost use Rattle.records.specs.Scan.{InRange, Tested, sooner_of, Keeps, Kept, Scanning, Reached, Steps, Ends, flat_of};
+ghost use Rattle.records.specs.Scan.{InRange, Began, of_job, Tested, sooner_of, Keeps, Kept, Scanning, Reached, Steps, Ends, flat_of};
 
 use checking::check_list;
 use jobs::first_out_of_range;
@@ -17,6 +18,20 @@ use shapes::{
 };
 
 const FLAT_MOST: usize = PLACEMENT_NUMBERS * PIECES_MOST;
+
+// What a job is refused for before any placement is seen.
+fn job_found(job: Job) -> Option<Refusal>
+    ensures { Began job result }
+{
+    first_out_of_range(job).map(Refusal::OutOfRange)
+}
+
+// Whether the job itself is refused, which nothing placed can change.
+fn is_of_job(found: Option<Refusal>) -> bool
+    ensures { result ≡ of_job found }
+{
+    matches!(found, Some(Refusal::OutOfRange(_)))
+}
 
 // The first of tests 6 to 8 that holds of the placement at i.
 fn test_of(job: Job, counts: &[u64; TYPES_MOST], p: Placement, i: usize) -> Option<Refusal>
@@ -47,25 +62,32 @@ fn sooner(old: Option<Refusal>, new: Option<Refusal>) -> Option<Refusal>
     }
 }
 
-// The placements seen so far, of a job in range: what was found, which no later placement can make later in the table's order.
+// The placements seen so far: what was found, which no later placement can make later in the table's order.
 // While nothing is found the list is short, and its counts and its flat numbers are kept; behind a refusal `seen` goes on alone, so it is no length of `flat`.
-#[derive(Drop)]
-struct Scan {
-    job: Job,
-    found: Option<Refusal>,
-    seen: usize,
-    counts: [u64; TYPES_MOST],
-    flat: [u64; FLAT_MOST],
+// Of a job out of range no placement is looked at.
+#[derive(Clone, Copy, Debug, PartialEq, Eq)]
+pub struct Scan {
+    pub job: Job,
+    pub found: Option<Refusal>,
+    pub seen: usize,
+    pub counts: [u64; TYPES_MOST],
+    pub flat: [u64; FLAT_MOST],
 }
 
 impl Scan {
-    fn new(job: Job) -> Scan
-        requires { InRange job }
+    pub fn new(job: Job) -> Scan
+        ensures { Scanning job [] result }
+    {
+        Scan::begun(job, job_found(job))
+    }
+
+    fn begun(job: Job, found: Option<Refusal>) -> Scan
+        requires { Began job found }
         ensures { Scanning job [] result }
     {
         Scan {
             job,
-            found: None,
+            found,
             seen: 0,
             counts: [0; TYPES_MOST],
             flat: [0; FLAT_MOST],
@@ -84,8 +106,10 @@ impl Scan {
         self.seen += 1;
     }
 
-    fn step(&mut self, p: Placement)
-        requires { Reached self.old }
+    // One placement more of a job in range; `check_records` asks for the job once, and not at each placement.
+    fn add(&mut self, p: Placement)
+        requires reached { Reached self.old }
+        requires in_range { InRange self.old.job }
         ensures { Steps self.old p self.new }
     {
         let test = test_of(self.job, &self.counts, p, self.seen);
@@ -99,7 +123,16 @@ impl Scan {
         }
     }
 
-    fn answer(&self) -> Result<Drawing, Refusal>
+    pub fn step(&mut self, p: Placement)
+        requires { Reached self.old }
+        ensures { Steps self.old p self.new }
+    {
+        if !is_of_job(self.found) {
+            self.add(p);
+        }
+    }
+
+    pub fn answer(&self) -> Result<Drawing, Refusal>
         requires { Reached self.now }
         ensures { Ends self.now result }
     {
@@ -115,12 +148,12 @@ impl Scan {
 pub fn check_records(job: Job, list: &[Placement]) -> Result<Drawing, Refusal>
     ensures { CheckNumbers (flat_of list.now) (items_of job) (check_answer result) }
 {
-    if let Some(item) = first_out_of_range(job) {
-        return Err(Refusal::OutOfRange(item));
+    if let Some(refusal) = job_found(job) {
+        return Err(refusal);
     }
-    let mut scan = Scan::new(job);
+    let mut scan = Scan::begun(job, None);
     for p in list {
-        scan.step(*p);
+        scan.add(*p);
     }
     scan.answer()
 }

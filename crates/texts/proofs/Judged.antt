@@ -9,7 +9,6 @@ use native.Mathlib.Omega.{arith}
 use lib.ListN.{length, drop, length-map}
 use lib.Dec.{leb}
 use borrow.Author.Tests.{leb-true, le-leb, lt-leb}
-use Rattle.std.specs.Prelude
 use Rattle.std.specs.Prelude.{Some}
 use Rattle.rules.specs.Limits.{size_most, kerf_most, types_most, profit_most, demand_most, pieces_most}
 use Rattle.rules.specs.Items.{Range, from, piece_ranges, ranges, first_out, piece_count, out_of_range}
@@ -17,6 +16,7 @@ use Rattle.rules.proofs.Bools.{and_both, both_and, and_false_right}
 use Rattle.rules.proofs.Ranges.{kept, this, those, item_in, item_out, handed_length}
 use Rattle.shapes.specs.Handed.{type_of, items_of}
 use Rattle.shapes.specs.declared.Job.{Job}
+use Rattle.reading.specs.declared.Sections.{Sections}
 use Rattle.reading.specs.Pieces.{no_types}
 use Rattle.reading.specs.Sections.{Holds, all, too_many, not_one}
 use Rattle.texts.specs.Told.{judged}
@@ -60,7 +60,7 @@ many_out : (l w k n : ℕ) (vs : List ℕ) → types_most < n → out_of_range (
 many_out l w k n vs h e = omega (arith, (this (those (those (those (those (kept 0 (ranges n) (1 ∷ l ∷ w ∷ k ∷ n ∷ vs) e)))))).high)
 
 -- an item of the two sections is out of range, whatever stands behind them
-pub judged_out : {job : Prelude.Option Job} {vs : List ℕ} → Holds job vs → (ws : List ℕ) → {item : ℕ} → judged job ≡ some item → out_of_range (vs ++ ws) ≡ some item
+pub judged_out : {sections : Sections} {vs : List ℕ} → Holds sections vs → (ws : List ℕ) → {item : ℕ} → judged sections.job ≡ some item → out_of_range (vs ++ ws) ≡ some item
 judged_out (all {job = job} s o h) ws e = out_early 0 (ranges job.count) (items_of job) ws e
 judged_out (too_many {job = job} {vs = vs} h) ws e = many_same job.length job.width job.kerf job.count (vs ++ ws) _ h ∙ e
 judged_out (not_one {sheets = n} {vs = vs} h) ws e = item_out 0 (from 1 1) (behind (piece_count (n ∷ vs ++ ws))) n (vs ++ ws) (not_one_out n h) ∙ e
@@ -72,10 +72,10 @@ pub record Items (job : Job) (vs : List ℕ) : Type 0 where
   pub others : drop job.count job.types ≡ drop job.count no_types
   pub fine : out_of_range (items_of job) ≡ none
 
-pub judged_fine : {some_job : Prelude.Option Job} {job : Job} {vs : List ℕ} → some_job ≡ Some job → Holds some_job vs → judged some_job ≡ none → Items job vs
-judged_fine {job = job} {vs = vs} e h k = go (subst (λ j. Holds j vs) e h) (subst (λ j. judged j ≡ none) e k)
+pub judged_fine : {sections : Sections} {job : Job} {vs : List ℕ} → sections.job ≡ Some job → Holds sections vs → judged sections.job ≡ none → Items job vs
+judged_fine {sections} {vs = vs} e h k = go (subst (λ j. Holds (record { sheets = sections.sheets; job = j }) vs) e h) (subst (λ j. judged j ≡ none) e k)
   where
-    go : {job : Job} {vs : List ℕ} → Holds (Some job) vs → judged (Some job) ≡ none → Items job vs
+    go : {sheets : ℕ} {job : Job} {vs : List ℕ} → Holds (record { sheets = sheets; job = Some job }) vs → judged (Some job) ≡ none → Items job vs
     go (all s o h) e = record { items = refl; size = s; others = o; fine = e }
     go {job = job} (too_many h) e = absurd (many_out job.length job.width job.kerf job.count _ h e)
 

@@ -6,7 +6,6 @@ use Prim.Native.Nat.{ℕ, ◌≤◌, ◌<◌}
 use native.Mathlib.Omega.{arith}
 use lib.ListN.{length, take, drop, length-drop, length-append}
 use lib.Seq.{take_at, drop_at, length-take-le}
-use Rattle.std.specs.Prelude
 use Rattle.std.specs.Prelude.{Some, Result, Ok, Err}
 use Rattle.rules.specs.Text.{Script, section, Text, plan_text}
 use Rattle.rules.specs.Items.{out_of_range}
@@ -17,6 +16,7 @@ use Rattle.shapes.specs.declared.Refusal.{Refusal}
 use Rattle.shapes.specs.declared.Refusal.TheVariants.{NotInGrammar, OutOfRange}
 use Rattle.reader.specs.declared.Stray.{Stray}
 use Rattle.reading.specs.declared.Placements.{Placements}
+use Rattle.reading.specs.declared.Sections.{Sections}
 use Rattle.reading.specs.Walked.{Walking, Strays, Arrives}
 use Rattle.reading.specs.Sections.{sheets_and_pieces, Holds}
 use Rattle.reading.specs.Placements as placements
@@ -51,6 +51,10 @@ module _ {job : Job} {vs : List ℕ} (i : Items job vs) where
   items_with : (ws : List ℕ) → vs ++ ws ≡ items_of job ++ ws
   items_with ws = ap (λ l. l ++ ws) (sym i.items)
 
+  -- the items of all three
+  items_of_lem : {us ws : List ℕ} {count : ℕ} → us ≡ count ∷ ws → vs ++ us ≡ items_of job ++ count ∷ ws
+  items_of_lem {us} e = items_with us ∙ ap (λ l. items_of job ++ l) e
+
   kept_read : {t was ws : List ℕ} {list : Placements} → Text plan_text t (vs ++ ws) → PlacementsOf list ws → {now : List ℕ} (r : Result ℕ Refusal) → PlanKept job list.count list.numbers was now r → PlanRead was t (plan_left (plan_of job r) now)
   kept_read tx (placements.outside {count = n} {vs = us} h z) _ (many k) = a_text tx (outside (ap out_of_range (items_with (n ∷ us)) ∙ count_out job i.size i.fine n us k))
   kept_read tx (placements.outside h z) _ (no_room k l) = absurd (omega arith)
@@ -63,14 +67,14 @@ module _ {job : Job} {vs : List ℕ} (i : Items job vs) where
       let g : numbers_of_placements n ≤ length numbers = omega (arith, l.size) in
       let f : take (numbers_of_placements n) now ≡ us = ap (take (numbers_of_placements n)) c ∙ copy_front numbers was (numbers_of_placements n) g m ∙ sym l.front in
       a_text tx (within (ap out_of_range (items_with (n ∷ us)) ∙ count_fine job i.size i.fine n us k)
-      (kept (items_with (n ∷ us) ∙ ap (λ q. items_of job ++ n ∷ q) (sym f)) i.size i.others m (ap length c ∙ copy_length numbers was (numbers_of_placements n) g m) (ap (drop (numbers_of_placements n)) c ∙ copy_rest numbers was (numbers_of_placements n) g m)))
+      (kept (items_of_lem (ap (λ q. n ∷ q) (sym f))) i.size i.others m (ap length c ∙ copy_length numbers was (numbers_of_placements n) g m) (ap (drop (numbers_of_placements n)) c ∙ copy_rest numbers was (numbers_of_placements n) g m)))
 
 -- the first two sections are left within
 pub plan_stops : {t was : List ℕ} {stray : Stray} → Strays sheets_and_pieces t 0 stray → PlanRead was t (plan_left (Err (NotInGrammar stray.place)) was)
 unfolding plan_text
 plan_stops {t} x = no_text (leaves_within plan_sections t (strays_before sheets_and_pieces (section 3) x))
 
-module _ {t : List ℕ} {job : Prelude.Option Job} {next : ℕ} (x : Arrives sheets_and_pieces t 0 Holds job next) where
+module _ {t : List ℕ} {sections : Sections} {next : ℕ} (x : Arrives sheets_and_pieces t 0 Holds sections next) where
   on : Walking plan_sections t 0 x.numbers (section 3) next
   on = before sheets_and_pieces (section 3) x.walked
 
@@ -93,9 +97,9 @@ module _ {t : List ℕ} {job : Prelude.Option Job} {next : ℕ} (x : Arrives she
       whole = is_text plan_sections t walk h
 
       -- an item of the first two sections is out of range
-      pub plan_out : {was : List ℕ} {item : ℕ} → judged job ≡ some item → PlanRead was t (plan_left (Err (OutOfRange item)) was)
+      pub plan_out : {was : List ℕ} {item : ℕ} → judged sections.job ≡ some item → PlanRead was t (plan_left (Err (OutOfRange item)) was)
       plan_out o = a_text whole (outside (judged_out x.told y.numbers o))
 
       -- the placements are kept, or not
-      pub plan_told : {was now : List ℕ} {j : Job} → job ≡ Some j → judged job ≡ none → (r : Result ℕ Refusal) → PlanKept j list.count list.numbers was now r → PlanRead was t (plan_left (plan_of j r) now)
+      pub plan_told : {was now : List ℕ} {j : Job} → sections.job ≡ Some j → judged sections.job ≡ none → (r : Result ℕ Refusal) → PlanKept j list.count list.numbers was now r → PlanRead was t (plan_left (plan_of j r) now)
       plan_told e o r k = kept_read (judged_fine e x.told o) whole y.told r k

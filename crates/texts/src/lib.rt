@@ -40,9 +40,9 @@ pub fn read_job(text: &[u8]) -> Result<Job, Refusal>
     ensures { JobRead text.now (job_answer result) }
 {
     let mut r = Reader::new(text);
-    let job = reading::two_sections(&mut r)?;
+    let sheet_and_pieces = reading::two_sections(&mut r)?;
     at_end(&r)?;
-    judge(job)
+    judge(sheet_and_pieces.job)
 }
 
 // What a plan text holds: its job, and how many placements stand in the lent buffer.
@@ -76,7 +76,7 @@ pub fn read_plan(text: &[u8], buffer: &mut [u64]) -> Result<PlanText, Refusal>
     let sections = reading::two_sections(&mut r)?;
     let list = reading::placement_section(&mut r)?;
     at_end(&r)?;
-    let job = judge(sections)?;
+    let job = judge(sections.job)?;
     let placements = kept_plan(job, &list, buffer)?;
     Ok(PlanText { job, placements })
 }

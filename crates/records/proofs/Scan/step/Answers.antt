@@ -1,16 +1,9 @@
--- `step` meets its contract. The laws are in Told; what is kept is in Kept. Assumes nothing.
-use Rattle.std.proofs.Common.{arith}
-use Rattle.records.proofs.Told.{seen_is, step_keeps, steps_keep, steps_other}
+-- `step` meets its contract. The laws are in Told. Assumes nothing.
+use Rattle.records.proofs.Told.{steps_out, job_in}
 use Rattle.records.proofs.Scan.step.Goals as goal
 
-pub keep-requires : goal.keep-requires
-keep-requires c = step_keeps _ c.test_of-test.ensures c.sooner-found.ensures c.requires c.in-None.is
+pub add-requires-clause-in_range : goal.add-requires-clause-in_range
+add-requires-clause-in_range c = job_in c.requires cc
 
-pub overflow_add-self : goal.overflow_add-self
-overflow_add-self c = omega (arith, seen_is c.requires, c.requires.fits)
-
-pub returns-in-None : goal.returns-in-None
-returns-in-None c = steps_keep _ c.test_of-test.ensures c.sooner-found.ensures c.in-None.is c.keep.ensures
-
-pub returns-in-Some : goal.returns-in-Some
-returns-in-Some c = steps_other _ c.test_of-test.ensures c.sooner-found.ensures c.in-Some.is
+pub returns-else-not-is_of_job : goal.returns-else-not-is_of_job
+returns-else-not-is_of_job c = steps_out _ cc
